@@ -50,7 +50,7 @@ unfolding placeOf
 place-small x [] = omega arith
 place-small x (c ∷ cs) = picked-small (eqb x c) (placeOf x cs) (length cs) (place-small x cs)
 
-codes-24 : (m : HourMode) → length (codes m) ≡ 24
+pub codes-24 : (m : HourMode) → length (codes m) ≡ 24
 unfolding codes
 codes-24 Twelve = refl
 codes-24 TwentyFour = refl

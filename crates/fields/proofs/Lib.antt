@@ -1,2 +1,5 @@
 pub mod Below
+pub mod FieldLaws
 mod HourCodes
+pub mod HourLaws
+pub mod TimeLaws

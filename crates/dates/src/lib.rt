@@ -1,0 +1,9 @@
+// Months, the table of their first days, and dates with their day numbers.
+mod date;
+mod months;
+mod table;
+
+pub use date::Date;
+pub use date::DateFound;
+pub use date::DayNumber;
+pub use date::date_at;
