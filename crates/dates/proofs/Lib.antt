@@ -1,1 +1,2 @@
 mod MonthTests
+pub mod MonthLaws

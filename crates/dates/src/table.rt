@@ -1,6 +1,6 @@
-// The first day numbers of all 1,200 months, a year to a line. (rule 3.13)
+// The first day numbers of all 1,200 months, and the month of a day. (rule 3.13)
 ghost use mathlib.Core.Path.{_≡_};
-ghost use Prim.Native.Nat.{_<_};
+ghost use Prim.Native.Nat.{_+_, _*_, _/_, _<_, min};
 ghost use Rattle.dates.specs.Months.{firstDayOf};
 ghost use Rattle.dates.specs.Dates.{monthOf};
 
@@ -1212,22 +1212,37 @@ pub fn first_day(k: usize) -> u32
     requires { ⌜ k < 1200 ⌝ }
     ensures { λ r. ⌜ r ≡ firstDayOf k ⌝ }
 {
-    FIRST_DAYS[k] as u32
+    wide(FIRST_DAYS[k])
 }
 
-// The month in which day n of the century falls: a linear guess is that month or the one after it.
+fn wide(n: u16) -> u32
+    ensures { λ r. ⌜ r ≡ n ⌝ }
+{
+    n as u32
+}
+
+// The month in which day n of the century falls: the guess, or the month before it.
 pub fn month_of(n: u32) -> usize
     requires { ⌜ n < 36525 ⌝ }
     ensures { λ r. ⌜ r ≡ monthOf n ⌝ }
 {
     let e = guess(n);
-    if first_day(e) <= n { e } else { e - 1 }
+    if first_day(e) <= n {
+        e
+    } else {
+        e - 1
+    }
 }
 
-// A month has 487/16 days, nearly.
+// 487 days to 16 months: the month of day n or the one after it.
 fn guess(n: u32) -> usize
     requires { ⌜ n < 36525 ⌝ }
+    ensures { λ r. ⌜ r ≡ min ((n * 16 + 40) / 487) 1199 ⌝ }
 {
     let e = (n * 16 + 40) / 487;
-    if e < 1200 { e as usize } else { 1199 }
+    if e < 1200 {
+        e as usize
+    } else {
+        1199
+    }
 }

@@ -3,7 +3,7 @@ use mathlib.Core.Path.{_≡_, refl, sym, _∙_, ap}
 use mathlib.Core.Logic.{_⊎_, inl, inr}
 use mathlib.Core.Bool.{Bool, true, false, cond}
 use mathlib.Core.List.{List, [], _∷_}
-use Prim.Native.Nat.{ℕ, suc, _+_, _≤_, _<_}
+use Prim.Native.Nat.{ℕ, suc, _+_, _/_, _%_, _≤_, _<_}
 use native.Mathlib.Decide.{decLt}
 use native.Mathlib.Nat.{le-of-suc-le-suc, not-suc-le-zero}
 use native.Mathlib.Omega.{arith}
@@ -73,8 +73,8 @@ mode-next h = mode-byte (modeOf h) (hourNumberOf h + 1)
 
 -- the step's one law, as a field's: on within the day, or over its end to midnight
 pub data HourStepped (h s : ℕ) : Type 0 where
-  on : hourNumberOf h < 23 → hourNumberOf s ≡ hourNumberOf h + 1 → eqb s (firstHour (modeOf s)) ≡ false → HourStepped h s
-  over : (hourNumberOf h < 24 → hourNumberOf h ≡ 23) → s ≡ firstHour (modeOf h) → eqb s (firstHour (modeOf s)) ≡ true → HourStepped h s
+  later : hourNumberOf h < 23 → hourNumberOf s ≡ hourNumberOf h + 1 → eqb s (firstHour (modeOf s)) ≡ false → HourStepped h s
+  turns : (hourNumberOf h < 24 → hourNumberOf h ≡ 23) → s ≡ firstHour (modeOf h) → eqb s (firstHour (modeOf s)) ≡ true → HourStepped h s
 
 module _ (h : ℕ) where
   on-code : hourNumberOf h + 1 < 24 → HourStepped h (nextHourOf h)
@@ -82,7 +82,7 @@ module _ (h : ℕ) where
   on-code l =
       let s = hourByteOf (modeOf h) (hourNumberOf h + 1) in
       let n = number-byte (modeOf h) (hourNumberOf h + 1) l in
-      on (omega arith) n
+      later (omega arith) n
       (ne-eqb s (firstHour (modeOf s))
       (λ (e : s ≡ firstHour (modeOf s)).
         let z : hourNumberOf s ≡ 0 = ap hourNumberOf e ∙ number-first (modeOf s) in
@@ -93,7 +93,25 @@ module _ (h : ℕ) where
   over-code l =
       let s = hourByteOf (modeOf h) (hourNumberOf h + 1) in
       let e = past (modeOf h) (hourNumberOf h + 1) l in
-      over (λ b. omega arith) e (eq-eqb s (firstHour (modeOf s)) (e ∙ ap firstHour (sym (mode-byte (modeOf h) (hourNumberOf h + 1)))))
+      turns (λ b. omega arith) e (eq-eqb s (firstHour (modeOf s)) (e ∙ ap firstHour (sym (mode-byte (modeOf h) (hourNumberOf h + 1)))))
 
   pub hour-stepped : HourStepped h (nextHourOf h)
   hour-stepped = elim (decLt (hourNumberOf h + 1) 24) [ yes l ↦ on-code l | no l ↦ over-code (omega arith) ]
+
+-- no code has bit 6
+byte-bit : (m : HourMode) (n : ℕ) → n < 24 → hourByteOf m n / 64 % 2 ≡ 0
+unfolding codes hourByteOf
+byte-bit Twelve = agree (λ (n : ℕ). hourByteOf Twelve n / 64 % 2) (λ (n : ℕ). 0) 24 tt
+byte-bit TwentyFour = agree (λ (n : ℕ). hourByteOf TwentyFour n / 64 % 2) (λ (n : ℕ). 0) 24 tt
+
+first-bit : (m : HourMode) → firstHour m / 64 % 2 ≡ 0
+first-bit Twelve = refl
+first-bit TwentyFour = refl
+
+pub next-hour-bit : (h : ℕ) → nextHourOf h / 64 % 2 ≡ 0
+unfolding nextHourOf
+next-hour-bit h =
+    elim (decLt (hourNumberOf h + 1) 24)
+      [ yes l ↦ byte-bit (modeOf h) (hourNumberOf h + 1) l
+      | no l ↦ rw (past (modeOf h) (hourNumberOf h + 1) (omega arith)) (first-bit (modeOf h))
+      ]

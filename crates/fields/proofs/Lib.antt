@@ -2,4 +2,7 @@ pub mod Below
 pub mod FieldLaws
 mod HourCodes
 pub mod HourLaws
+pub mod HouseLaws
+pub mod Settles
+mod Settled
 pub mod TimeLaws

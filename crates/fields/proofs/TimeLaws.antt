@@ -11,8 +11,7 @@ use Rattle.fields.specs.Times.{legalTimeOf, secondOf, nextTimeOf, midnig
 use Rattle.fields.specs.declared.hours.HourMode.{HourMode}
 use Rattle.fields.specs.declared.times.TimeOfDay.{TimeOfDay}
 use Rattle.fields.proofs.FieldLaws.{Held, Field, sixty, byte-held, held, legal-held, and-left, and-right, byte-value, value-byte, Stepped, up, over, stepped}
-use Rattle.fields.proofs.HourLaws.{mode-byte, mode-next, mode-first, number-byte, byte-number, number-first, HourStepped, hour-stepped}
-use Rattle.fields.proofs.HourLaws as hour
+use Rattle.fields.proofs.HourLaws.{mode-byte, mode-next, mode-first, number-byte, byte-number, number-first, HourStepped, later, turns, hour-stepped}
 
 -- what it is to be legal, as facts
 pub record LegalTime (c : TimeOfDay) : Type 0 where
@@ -84,3 +83,51 @@ module _ (m : HourMode) (n : ℕ) where
       , number-byte m (n / 3600 % 24) (omega arith)
       )
       (omega arith)
+
+-- one second on: within the day, or over midnight to its first second
+pub data Turned (c d : TimeOfDay) : Type 0 where
+  on : midnightOf d ≡ false → secondOf d ≡ secondOf c + 1 → LegalTime d → Turned c d
+  past : midnightOf d ≡ true → secondOf c ≡ 86399 → secondOf d ≡ 0 → LegalTime d → Turned c d
+
+-- the next time of day over its three stepped fields
+abbrev carried : TimeOfDay → ℕ → ℕ → ℕ → TimeOfDay
+carried c s m h =
+    record { seconds = s; minutes = cond (eqb s 0x00) m (c .minutes); hours = cond (eqb s 0x00 && eqb m 0x00) h (c .hours) }
+
+minute-on : (h m n s : ℕ) → s ≡ 59 → n ≡ m + 1 → h * 3600 + n * 60 + 0 ≡ h * 3600 + m * 60 + s + 1
+minute-on h m n s e f = omega arith
+
+module _ (c : TimeOfDay) (l : LegalTime c) where
+  turned : (s m h : ℕ) → Stepped 0x00 0x59 (c .seconds) s → Stepped 0x00 0x59 (c .minutes) m → HourStepped (c .hours) h → Turned c (carried c s m h)
+  unfolding midnightOf secondOf
+  turned s m h (up a b n v e) q r = rw e (on (simp e) (omega arith) (record { seconds = n; minutes = l .minutes; hours = l .hours }))
+  turned s m h (over a e) (up a₂ b n v e₂) r =
+      let k = minute-on (hourNumberOf (c .hours)) (valueOf (c .minutes)) (valueOf m) (valueOf (c .seconds)) (ap valueOf (a (l .seconds))) v in
+      rw (e, e₂) (on (simp e₂) k (record { seconds = sixty .begin; minutes = n; hours = l .hours }))
+  turned s m h (over a e) (over a₂ e₂) (later b n t) =
+      let z = a (l .seconds) in
+      let w = a₂ (l .minutes) in
+      rw (e, e₂) (on t (omega arith) (record { seconds = sixty .begin; minutes = sixty .begin; hours = omega arith }))
+  turned s m h (over a e) (over a₂ e₂) (turns b n t) =
+      let z = a (l .seconds) in
+      let w = a₂ (l .minutes) in
+      let y = b (l .hours) in
+      let k : hourNumberOf h ≡ 0 = ap hourNumberOf n ∙ number-first (modeOf (c .hours)) in
+      rw (e, e₂) (past t (omega arith) (omega arith) (record { seconds = sixty .begin; minutes = sixty .begin; hours = omega arith }))
+
+  pub turns-over : Turned c (nextTimeOf c)
+  unfolding nextTimeOf
+  turns-over =
+      turned (stepOf 0x00 0x59 (c .seconds)) (stepOf 0x00 0x59 (c .minutes)) (nextHourOf (c .hours))
+      (stepped 0x00 0x59 (c .seconds) sixty) (stepped 0x00 0x59 (c .minutes) sixty) (hour-stepped (c .hours))
+
+pub kept-mode : (b : Bool) (x y : ℕ) → modeOf x ≡ modeOf y → modeOf (cond b x y) ≡ modeOf y
+kept-mode true x y e = e
+kept-mode false x y e = refl
+
+-- the hour mode stays, whatever the bytes are
+pub next-mode : (c : TimeOfDay) → modeOf (nextTimeOf c .hours) ≡ modeOf (c .hours)
+unfolding nextTimeOf
+next-mode c =
+    kept-mode (eqb (stepOf 0x00 0x59 (c .seconds)) 0x00 && eqb (stepOf 0x00 0x59 (c .minutes)) 0x00) (nextHourOf (c .hours)) (c .hours)
+    (mode-next (c .hours))

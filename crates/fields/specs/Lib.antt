@@ -1,3 +1,4 @@
 pub mod Digits
 pub mod Hours
 pub mod Times
+pub mod House

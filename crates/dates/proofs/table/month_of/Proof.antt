@@ -6,23 +6,23 @@ use Rattle.dates.proofs.table.month_of.Lts as lts
 use Rattle.dates.proofs.table.first_day.Reads as first-day-reads
 use Rattle.dates.proofs.table.guess.Reads as guess-reads
 
--- src/table.rt:1223:9
+-- src/table.rt:1229:9
 guess-requires : tie.Need-guess-requires
 guess-requires c κs = search needs
 
--- src/table.rt:1224:8
+-- src/table.rt:1230:8
 first-day-requires : tie.Need-first-day-requires
-first-day-requires c κs = ?
+first-day-requires c κs = search needs
 
--- src/table.rt:1224:39
+-- src/table.rt:1233:9
 sub-result : tie.Need-sub-result
 sub-result c = ?
 
--- src/table.rt:1219:1
+-- src/table.rt:1225:1
 returns : tie.Need-returns
 returns c = ?
 
--- src/table.rt:1219:1
+-- src/table.rt:1225:1
 returns-2 : tie.Need-returns-2
 returns-2 c = ?
 

@@ -1,0 +1,98 @@
+-- The house rule: stepping an illegal field is stepping its last value, and a step ends legal. Assumes nothing.
+use mathlib.Core.Path.{_≡_, refl, sym, _∙_, ap}
+use mathlib.Core.Bool.{Bool, true, false, cond, _&&_, true≢false}
+use Prim.Native.Nat.{ℕ, _+_, _≤_, _<_}
+use native.Mathlib.Omega.{arith}
+use lib.Dec.{ltb, eqb}
+use borrow.Author.Tests.{lt-ltb}
+use Rattle.fields.specs.Digits.{legalOf, stepOf}
+use Rattle.fields.specs.Hours.{modeOf, codes, firstHour, placeOf, legalHourOf, hourNumberOf, hourByteOf, nextHourOf}
+use Rattle.fields.specs.Times.{nextTimeOf}
+use Rattle.fields.specs.House.{asField, lastHour, asHour, asTimeOfDay}
+use Rattle.fields.specs.declared.hours.HourMode.{HourMode}
+use Rattle.fields.specs.declared.hours.HourMode.the-variants.{Twelve, TwentyFour}
+use Rattle.fields.specs.declared.times.TimeOfDay.{TimeOfDay}
+use Rattle.fields.proofs.FieldLaws.{Held, Field, sixty, held, legal-held, Stepped, up, over, stepped}
+use Rattle.fields.proofs.HourLaws.{HourStepped, later, turns, hour-stepped, number-first}
+
+module _ (first last x : ℕ) (f : Field first last) where
+  ends-held : (s : ℕ) → Stepped first last x s → Held first last s
+  ends-held s (up a b n v e) = n
+  ends-held s (over a e) = rw e (f .begin)
+
+  -- a step ends at a legal value
+  pub step-held : Held first last (stepOf first last x)
+  step-held = ends-held (stepOf first last x) (stepped first last x f)
+
+  pub as-step : asField first last (stepOf first last x) ≡ stepOf first last x
+  unfolding asField
+  as-step = simp (legal-held first last (stepOf first last x) step-held)
+
+  -- an illegal value steps to the first, as the last one does
+  over-first : (s : ℕ) → Stepped first last x s → (Held first last x → x ≡ last) → s ≡ first
+  over-first s (up a b n v e) o = absurd (let z = o a in omega arith)
+  over-first s (over a e) o = e
+
+module _ (first last x : ℕ) (f : Field first last) where
+  step-last : stepOf first last last ≡ first
+  step-last = over-first first last last f (stepOf first last last) (stepped first last last f) (λ h. refl)
+
+  as-by : (t : Bool) → legalOf first last x ≡ t → stepOf first last (cond t x last) ≡ stepOf first last x
+  as-by true e = refl
+  as-by false e =
+      step-last
+      ∙ sym
+      (over-first first last x f (stepOf first last x) (stepped first last x f)
+      (λ (h : Held first last x). absurd (true≢false (sym (legal-held first last x h) ∙ e))))
+
+  pub step-as : stepOf first last (asField first last x) ≡ stepOf first last x
+  unfolding asField
+  step-as = as-by (legalOf first last x) refl
+
+-- the same of hours
+module _ (h : ℕ) where
+  hour-ends : (s : ℕ) → HourStepped h s → hourNumberOf s < 24
+  hour-ends s (later b n t) = omega arith
+  hour-ends s (turns b n t) = rw n (omega (arith, number-first (modeOf h)))
+
+  pub as-next-hour : asHour (nextHourOf h) ≡ nextHourOf h
+  unfolding asHour
+  as-next-hour = simp (lt-ltb _ _ (hour-ends (nextHourOf h) (hour-stepped h)))
+
+next-last : (m : HourMode) → nextHourOf (lastHour m) ≡ firstHour m
+unfolding nextHourOf hourNumberOf hourByteOf codes placeOf
+next-last Twelve = refl
+next-last TwentyFour = refl
+
+module _ (h : ℕ) where
+  illegal-next : (s : ℕ) → HourStepped h s → legalHourOf h ≡ false → s ≡ firstHour (modeOf h)
+  illegal-next s (later b n t) e = absurd (true≢false (sym (lt-ltb (hourNumberOf h) 24 (omega arith)) ∙ e))
+  illegal-next s (turns b n t) e = n
+
+  hour-by : (t : Bool) → legalHourOf h ≡ t → nextHourOf (cond t h (lastHour (modeOf h))) ≡ nextHourOf h
+  hour-by true e = refl
+  hour-by false e = next-last (modeOf h) ∙ sym (illegal-next (nextHourOf h) (hour-stepped h) e)
+
+  pub next-hour-as : nextHourOf (asHour h) ≡ nextHourOf h
+  unfolding asHour
+  next-hour-as = hour-by (legalHourOf h) refl
+
+-- a reading of what a carry may have changed
+pub read-carried : (read : ℕ → ℕ) (b : Bool) (x y : ℕ) → read x ≡ x → cond b x (read y) ≡ read (cond b x y)
+read-carried read true x y e = sym e
+read-carried read false x y e = refl
+
+-- one second on and the reading can be had in either order
+pub next-as : (c : TimeOfDay) → nextTimeOf (asTimeOfDay c) ≡ asTimeOfDay (nextTimeOf c)
+unfolding nextTimeOf asTimeOfDay
+next-as c =
+    let s = stepOf 0x00 0x59 (c .seconds) in
+    let m = stepOf 0x00 0x59 (c .minutes) in
+    simp
+    ( step-as 0x00 0x59 (c .seconds) sixty
+    , step-as 0x00 0x59 (c .minutes) sixty
+    , next-hour-as (c .hours)
+    , as-step 0x00 0x59 (c .seconds) sixty
+    , read-carried (asField 0x00 0x59) (eqb s 0x00) m (c .minutes) (as-step 0x00 0x59 (c .minutes) sixty)
+    , read-carried asHour (eqb s 0x00 && eqb m 0x00) (nextHourOf (c .hours)) (c .hours) (as-next-hour (c .hours))
+    )

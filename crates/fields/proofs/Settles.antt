@@ -1,0 +1,16 @@
+-- What it is for a contract to settle its result, and the one lemma for it. Assumes nothing.
+use mathlib.Core.Path.{_≡_, sym, _∙_}
+use mathlib.Core.List.{List}
+use Prim.Native.Nat.{ℕ}
+use contract.Lifetimes.{Lfts}
+use denote.Triple.Clauses.{AtExit}
+use borrow.Fn.Kinds.{PK, RK, Dens, resT, endedOf, Out}
+
+-- any two results that the contract allows at the same arguments are equal
+abbrev pub Settles : (n : ℕ) (ps : List (PK n)) (r : RK n) → Out n ps r → Type 0
+Settles n ps r post =
+    (κs : Lfts n) (a : Dens κs ps) (e f : AtExit (endedOf n ps r) κs) (x y : resT r κs .Denot) → post κs a x e → post κs a y f → x ≡ y
+
+-- an answer that says m, where no two answers say the same
+pub settled : {A B : Type 0} (say : A → B) → ((x y : A) → say x ≡ say y → x ≡ y) → {m : B} {x y : A} → say x ≡ m → say y ≡ m → x ≡ y
+settled say one {x = x} {y = y} p q = one x y (p ∙ sym q)
