@@ -1,2 +1,3 @@
 mod MonthTests
 pub mod MonthLaws
+pub mod DateLaws

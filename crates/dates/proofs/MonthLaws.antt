@@ -8,7 +8,8 @@ use lib.Dec.{T, leb, ltb, eqb, leb→le, ltb→lt}
 use borrow.Author.Tests.{lt-ltb, le-ltb}
 use Rattle.fields.specs.Digits.{valueOf}
 use Rattle.fields.proofs.Below.{both-left, both-right}
-use Rattle.dates.specs.Months.{leapOf, lastDayOf, daysOf, firstDayOf}
+use Rattle.fields.proofs.FieldLaws.{Field}
+use Rattle.dates.specs.Months.{leapOf, lastDayOf, monthByteOf, yearByteOf, daysOf, firstDayOf}
 use Rattle.dates.specs.Dates.{monthFrom, monthOf}
 use Rattle.dates.proofs.MonthTests.{every-month}
 
@@ -125,3 +126,40 @@ falls n h =
           let w = guess-month n e h refl (omega arith) in
           rw (found e n w) w
       ]
+
+-- a month ends on day 28, 29, 30 or 31
+data Ends : ℕ → Type 0 where
+  d28 : Ends 0x28
+  d29 : Ends 0x29
+  d30 : Ends 0x30
+  d31 : Ends 0x31
+
+one-of : (b : Bool) {x y : ℕ} → Ends x → Ends y → Ends (cond b x y)
+one-of true p q = p
+one-of false p q = q
+
+ends : (month year : ℕ) → Ends (lastDayOf month year)
+unfolding lastDayOf
+ends month year =
+    one-of (eqb month 0x02) (one-of (leapOf year) d29 d28)
+    (one-of (eqb month 0x04) d30 (one-of (eqb month 0x06) d30 (one-of (eqb month 0x09) d30 (one-of (eqb month 0x11) d30 d31))))
+
+ends-field : {x : ℕ} → Ends x → Field 0x01 x
+ends-field d28 = omega arith
+ends-field d29 = omega arith
+ends-field d30 = omega arith
+ends-field d31 = omega arith
+
+-- the days of every month are a field
+pub day-field : (month year : ℕ) → Field 0x01 (lastDayOf month year)
+day-field month year = ends-field (ends month year)
+
+ends-small : {x : ℕ} → Ends x → valueOf x ≤ 31
+ends-small d28 = omega arith
+ends-small d29 = omega arith
+ends-small d30 = omega arith
+ends-small d31 = omega arith
+
+pub days-small : (k : ℕ) → daysOf k ≤ 31
+unfolding daysOf
+days-small k = ends-small (ends (monthByteOf k) (yearByteOf k))

@@ -75,6 +75,9 @@ hundred = omega arith
 pub value-le : (x y : ℕ) → x % 16 < 10 → y % 16 < 10 → valueOf x ≤ valueOf y → x ≤ y
 value-le x y hx hy h = omega arith
 
+pub value-up : (x y : ℕ) → x % 16 < 10 → y % 16 < 10 → x ≤ y → valueOf x ≤ valueOf y
+value-up x y hx hy h = omega arith
+
 pub byte-held : (first last n : ℕ) → Field first last → valueOf first ≤ n → n ≤ valueOf last → Held first last (byteOf n)
 byte-held first last n f low high =
     let v : valueOf (byteOf n) ≡ n = value-byte n (omega arith) in
