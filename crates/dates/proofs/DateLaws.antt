@@ -51,24 +51,27 @@ module _ (d : Date) where
       let x = legalOf 0x01 (lastDayOf (d .month) (d .year)) (d .day) in
       let m = legalOf 0x01 0x12 (d .month) in
       let y = legalOf 0x00 0x99 (d .year) in
-      record
-        { day = held 0x01 (lastDayOf (d .month) (d .year)) (d .day) (and-left x m (and-left (x && m) y e))
-        ; month = held 0x01 0x12 (d .month) (and-right x m (and-left (x && m) y e))
-        ; year = held 0x00 0x99 (d .year) (and-right (x && m) y e)
-        }
+      record {
+        day = held 0x01 (lastDayOf (d .month) (d .year)) (d .day) (and-left x m (and-left (x && m) y e));
+        month = held 0x01 0x12 (d .month) (and-right x m (and-left (x && m) y e));
+        year = held 0x00 0x99 (d .year) (and-right (x && m) y e);
+      }
 
   pub date-legal : LegalDate d → legalDateOf d ≡ true
   unfolding legalDateOf
   date-legal l =
-      simp
-      ( legal-held 0x01 (lastDayOf (d .month) (d .year)) (d .day) (l .day)
-      , legal-held 0x01 0x12 (d .month) (l .month)
-      , legal-held 0x00 0x99 (d .year) (l .year)
+      simp (
+        legal-held 0x01 (lastDayOf (d .month) (d .year)) (d .day) (l .day),
+        legal-held 0x01 0x12 (d .month) (l .month),
+        legal-held 0x00 0x99 (d .year) (l .year),
       )
 
 module _ (d : Date) (l : LegalDate d) where
   month-split : Split (valueOf (d .year)) (valueOf (d .month)) (monthNumberOf d)
   month-split = split (valueOf (d .year)) (valueOf (d .month)) (omega (arith, l .year)) (omega (arith, l .month)) (omega (arith, l .month))
+
+  pub month-small : monthNumberOf d < 1200
+  month-small = month-split .small
 
   month-again : monthByteOf (monthNumberOf d) ≡ d .month
   month-again = ap byteOf (month-split .month) ∙ byte-value (d .month) (l .month .units) (l .month .tens)
@@ -91,11 +94,11 @@ module _ (d : Date) (l : LegalDate d) where
   pub day-falls : Falls (monthNumberOf d) (dayOf d)
   unfolding dayOf
   day-falls =
-      record
-        { month = month-split .small
-        ; from = within (firstDayOf (monthNumberOf d)) (valueOf (d .day)) (daysOf (monthNumberOf d)) day-low day-top .0
-        ; until = within (firstDayOf (monthNumberOf d)) (valueOf (d .day)) (daysOf (monthNumberOf d)) day-low day-top .1
-        }
+      record {
+        month = month-split .small;
+        from = within (firstDayOf (monthNumberOf d)) (valueOf (d .day)) (daysOf (monthNumberOf d)) day-low day-top .0;
+        until = within (firstDayOf (monthNumberOf d)) (valueOf (d .day)) (daysOf (monthNumberOf d)) day-low day-top .1;
+      }
 
   pub day-small : dayOf d < 36525
   day-small = omega (arith, day-falls .until, first-small (monthNumberOf d) (month-split .small))
@@ -116,13 +119,13 @@ module _ (k n : ℕ) (h : Falls k n) where
   pub date-in-legal : LegalDate (dateIn k n)
   unfolding daysOf
   date-in-legal =
-      record
-        { day =
+      record {
+        day =
             byte-held 0x01 (lastDayOf (monthByteOf k) (yearByteOf k)) (n - firstDayOf k + 1) (day-field (monthByteOf k) (yearByteOf k))
-            (omega arith) (into (firstDayOf k) n (valueOf (lastDayOf (monthByteOf k) (yearByteOf k))) (h .from) (h .until))
-        ; month = byte-held 0x01 0x12 (k % 12 + 1) twelve (omega arith) (omega arith)
-        ; year = byte-held 0x00 0x99 (k / 12) hundred (omega arith) (omega (arith, h .month))
-        }
+            (omega arith) (into (firstDayOf k) n (valueOf (lastDayOf (monthByteOf k) (yearByteOf k))) (h .from) (h .until));
+        month = byte-held 0x01 0x12 (k % 12 + 1) twelve (omega arith) (omega arith);
+        year = byte-held 0x00 0x99 (k / 12) hundred (omega arith) (omega (arith, h .month));
+      }
 
   month-in : monthNumberOf (dateIn k n) ≡ k
   month-in = rw (value-byte (k / 12) (omega (arith, h .month)), value-byte (k % 12 + 1) (omega arith)) (omega arith)
@@ -174,29 +177,29 @@ module _ (d : Date) (l : LegalDate d) where
 
     first-on : d .day ≡ lastDayOf (d .month) (d .year) → NextDay d (first-of m y)
     first-on f =
-        record
-          { legal = w
-          ; day = counts (dayOf d) (dayOf (first-of m y)) (first-number ∙ sym (last-day-on f)) (day-small (first-of m y) w)
-          }
+        record {
+          legal = w;
+          day = counts (dayOf d) (dayOf (first-of m y)) (first-number ∙ sym (last-day-on f)) (day-small (first-of m y) w);
+        }
 
   same-month : (a : ℕ) → Held 0x01 (lastDayOf (d .month) (d .year)) a → valueOf a ≡ valueOf (d .day) + 1 → NextDay d (record { day = a; month = d .month; year = d .year })
   unfolding dayOf
   same-month a n v =
       let e : Date = record { day = a; month = d .month; year = d .year } in
       let w : LegalDate e = record { day = n; month = l .month; year = l .year } in
-      record
-        { legal = w
-        ; day = counts (dayOf d) (dayOf e) (day-on (firstDayOf (monthNumberOf d)) (valueOf (d .day)) (valueOf a) (day-low d l) v) (day-small e w)
-        }
+      record {
+        legal = w;
+        day = counts (dayOf d) (dayOf e) (day-on (firstDayOf (monthNumberOf d)) (valueOf (d .day)) (valueOf a) (day-low d l) v) (day-small e w);
+      }
 
   century-on : d .day ≡ lastDayOf (d .month) (d .year) → monthNumberOf d ≡ 1199 → NextDay d (first-of 0x01 0x00)
   unfolding dayOf
   century-on f k =
       let z : dayOf d + 1 ≡ 36525 = last-day-on f ∙ ap (λ (j : ℕ). firstDayOf (suc j)) k ∙ century in
-      record
-        { legal = record { day = day-field 0x01 0x00 .begin; month = twelve .begin; year = hundred .begin }
-        ; day = add-zero (firstDayOf 0) ∙ first-zero ∙ sym (ap (λ (j : ℕ). j % 36525) z)
-        }
+      record {
+        legal = record { day = day-field 0x01 0x00 .begin; month = twelve .begin; year = hundred .begin };
+        day = add-zero (firstDayOf 0) ∙ first-zero ∙ sym (ap (λ (j : ℕ). j % 36525) z);
+      }
 
   turned : (a m y : ℕ) → Stepped 0x01 (lastDayOf (d .month) (d .year)) (d .day) a → Stepped 0x01 0x12 (d .month) m → Stepped 0x00 0x99 (d .year) y → NextDay d (carried d a m y)
   turned a m y (up b c n v e) q r = rw e (same-month a n v)

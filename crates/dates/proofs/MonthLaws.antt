@@ -48,10 +48,10 @@ near-first k h =
     let t = every-month near 1200 tt k h in
     let c = leb (487 * k) (16 * a + 40) in
     let w = ltb (16 * a + 24) (487 * (k + 1)) in
-    record
-      { come = leb→le (487 * k) (16 * a + 40) (both-left c w t)
-      ; within = ltb→lt (16 * a + 24) (487 * (k + 1)) (both-right c w t)
-      }
+    record {
+      come = leb→le (487 * k) (16 * a + 40) (both-left c w t);
+      within = ltb→lt (16 * a + 24) (487 * (k + 1)) (both-right c w t);
+    }
 
 -- day n falls into month k
 pub record Falls (k n : ℕ) : Type 0 where
@@ -62,27 +62,27 @@ pub record Falls (k n : ℕ) : Type 0 where
 module _ (n e : ℕ) (small : n < 36525) (guessed : e ≡ min ((n * 16 + 40) / 487) 1199) where
   guess-until : n < firstDayOf e + daysOf e
   guess-until =
-      elim (decLt e 1199)
-        [ yes h ↦
+      elim (decLt e 1199) [
+        | yes h ↦
             let a = near-first (suc e) (omega arith) .come in
             omega (arith, first-suc e)
         | no h ↦
             let last : e ≡ 1199 = omega arith in
             rw last (omega (arith, first-suc 1199, century))
-        ]
+      ]
 
   pub guess-month : firstDayOf e ≤ n → Falls e n
   guess-month h = record { month = omega arith; from = h; until = guess-until }
 
   pub guess-late : n < firstDayOf e → 0 < e
   guess-late l =
-      elim (decLt 0 e)
-        [ yes h ↦ h
+      elim (decLt 0 e) [
+        | yes h ↦ h
         | no h ↦
             let z : e ≡ 0 = omega arith in
             let b = rw (z, first-zero) at l in
             omega arith
-        ]
+      ]
 
   prior : (j : ℕ) → e ≡ suc j → n < firstDayOf e → Falls j n
   prior j h l =
@@ -100,15 +100,15 @@ found-from : (f j k n : ℕ) → j ≤ k → k < j + f → Falls k n → monthFr
 unfolding monthFrom
 found-from zero j k n a b h = absurd (omega arith)
 found-from (suc f) j k n a b h =
-    elim (decLt j k)
-      [ yes l ↦
+    elim (decLt j k) [
+      | yes l ↦
           let past : daysOf j ≤ n - firstDayOf j = omega (arith, first-suc j, first-up (suc j) k l, h .from) in
           let rest : n - firstDayOf j - daysOf j ≡ n - firstDayOf (suc j) = omega (arith, first-suc j) in
           rw (le-ltb (n - firstDayOf j) (daysOf j) past, rest) (found-from f (suc j) k n l (omega arith) h)
       | no l ↦
           let here : j ≡ k = omega arith in
           rw (here, lt-ltb (n - firstDayOf k) (daysOf k) (omega arith))
-      ]
+    ]
 
 pub found : (k n : ℕ) → Falls k n → monthOf n ≡ k
 found k n h =
@@ -118,14 +118,14 @@ found k n h =
 pub falls : (n : ℕ) → n < 36525 → Falls (monthOf n) n
 falls n h =
     let e = min ((n * 16 + 40) / 487) 1199 in
-    elim (decLt n (firstDayOf e))
-      [ yes l ↦
+    elim (decLt n (firstDayOf e)) [
+      | yes l ↦
           let w = guess-before n e h refl l in
           rw (found (e - 1) n w) w
       | no l ↦
           let w = guess-month n e h refl (omega arith) in
           rw (found e n w) w
-      ]
+    ]
 
 -- a month ends on day 28, 29, 30 or 31
 data Ends : ℕ → Type 0 where

@@ -24,9 +24,9 @@ begins-from (x ∷ xs) k t (suc i) h =
     ∙ ap firstDayOf (suc-add k i ∙ sym (add-suc k i))
 
 -- each entry of a table that passes is the first day of its month
-pub table-rule : (xs : List ℕ) → T (begins 0 0 xs) → (k : ℕ) → k < length xs → getD xs k 0 ≡ firstDayOf k
+pub table-rule : (xs : List ℕ) (k : ℕ) → T (begins 0 0 xs) → k < length xs → getD xs k 0 ≡ firstDayOf k
 unfolding firstDayOf
-table-rule xs t k h = begins-from xs 0 t k h ∙ ap firstDayOf (zero-add k)
+table-rule xs k t h = begins-from xs 0 t k h ∙ ap firstDayOf (zero-add k)
 
 -- a test of n months from month k on, each with its first day
 abbrev pub runs : (ℕ → ℕ → Bool) → ℕ → ℕ → ℕ → Bool

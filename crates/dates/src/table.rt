@@ -1227,11 +1227,7 @@ pub fn month_of(n: u32) -> usize
     ensures { λ r. ⌜ r ≡ monthOf n ⌝ }
 {
     let e = guess(n);
-    if first_day(e) <= n {
-        e
-    } else {
-        e - 1
-    }
+    if first_day(e) <= n { e } else { e - 1 }
 }
 
 // 487 days to 16 months: the month of day n or the one after it.
@@ -1240,9 +1236,5 @@ fn guess(n: u32) -> usize
     ensures { λ r. ⌜ r ≡ min ((n * 16 + 40) / 487) 1199 ⌝ }
 {
     let e = (n * 16 + 40) / 487;
-    if e < 1200 {
-        e as usize
-    } else {
-        1199
-    }
+    if e < 1200 { e as usize } else { 1199 }
 }

@@ -38,12 +38,12 @@ module _ (first last x : ℕ) where
       let b = ltb (x / 16) 10 in
       let l = leb first x in
       let h = leb x last in
-      record
-        { units = ltb-true (x % 16) 10 (and-left a b (and-left (a && b) l (and-left (a && b && l) h e)))
-        ; tens = ltb-true (x / 16) 10 (and-right a b (and-left (a && b) l (and-left (a && b && l) h e)))
-        ; low = leb-true first x (and-right (a && b) l (and-left (a && b && l) h e))
-        ; high = leb-true x last (and-right (a && b && l) h e)
-        }
+      record {
+        units = ltb-true (x % 16) 10 (and-left a b (and-left (a && b) l (and-left (a && b && l) h e)));
+        tens = ltb-true (x / 16) 10 (and-right a b (and-left (a && b) l (and-left (a && b && l) h e)));
+        low = leb-true first x (and-right (a && b) l (and-left (a && b && l) h e));
+        high = leb-true x last (and-right (a && b && l) h e);
+      }
 
   pub legal-held : Held first last x → legalOf first last x ≡ true
   legal-held h = simp (lt-ltb _ _ (h .units), lt-ltb _ _ (h .tens), le-leb _ _ (h .low), le-leb _ _ (h .high))
@@ -81,12 +81,12 @@ value-up x y hx hy h = omega arith
 pub byte-held : (first last n : ℕ) → Field first last → valueOf first ≤ n → n ≤ valueOf last → Held first last (byteOf n)
 byte-held first last n f low high =
     let v : valueOf (byteOf n) ≡ n = value-byte n (omega arith) in
-    record
-      { units = omega arith
-      ; tens = omega arith
-      ; low = value-le first (byteOf n) (f .begin .units) (omega arith) (rw v low)
-      ; high = value-le (byteOf n) last (omega arith) (f .end .units) (rw v high)
-      }
+    record {
+      units = omega arith;
+      tens = omega arith;
+      low = value-le first (byteOf n) (f .begin .units) (omega arith) (rw v low);
+      high = value-le (byteOf n) last (omega arith) (f .end .units) (rw v high);
+    }
 
 -- the step's one law: up within the field, or over its end to the first value
 pub data Stepped (first last x s : ℕ) : Type 0 where
@@ -100,14 +100,14 @@ Next x s = ((x % 16 < 9) × (s ≡ x + 1)) ⊎ ((x % 16 ≡ 9) × (s ≡ x + 7))
 after : (x : ℕ) → x % 16 < 10 → x < 0x99 → Next x (byteOf (valueOf x + 1))
 unfolding Next
 after x u b =
-    elim (decLt (x % 16) 9)
-      [ yes h ↦
+    elim (decLt (x % 16) 9) [
+      | yes h ↦
           let n : valueOf x + 1 ≡ x / 16 * 10 + (x % 16 + 1) = omega arith in
           inl (h, rw (n, byte-digits (x / 16) (x % 16 + 1) (omega arith) (omega arith)) (omega arith))
       | no h ↦
           let n : valueOf x + 1 ≡ (x / 16 + 1) * 10 + 0 = omega arith in
           inr (omega arith, rw (n, byte-digits (x / 16 + 1) 0 (omega arith) (omega arith)) (omega arith))
-      ]
+    ]
 
 module _ (first last x : ℕ) (l : Held first last last) (h : Held first last x) (b : x < last) where
   after-held : (s : ℕ) → Next x s → (Held first last s) × (first < s)
@@ -128,8 +128,8 @@ module _ (first last x : ℕ) (f : Field first last) where
   by-test false e =
       over
       (λ (h : Held first last x).
-        let n : last ≤ x = ltb-false x last (and-false (legalOf first last x) (ltb x last) (legal-held first last x h) e) in
-        omega arith)
+      let n : last ≤ x = ltb-false x last (and-false (legalOf first last x) (ltb x last) (legal-held first last x h) e) in
+      omega arith)
       refl
 
   pub stepped : Stepped first last x (stepOf first last x)

@@ -85,8 +85,8 @@ module _ (h : ℕ) where
       later (omega arith) n
       (ne-eqb s (firstHour (modeOf s))
       (λ (e : s ≡ firstHour (modeOf s)).
-        let z : hourNumberOf s ≡ 0 = ap hourNumberOf e ∙ number-first (modeOf s) in
-        omega arith))
+      let z : hourNumberOf s ≡ 0 = ap hourNumberOf e ∙ number-first (modeOf s) in
+      omega arith))
 
   over-code : 24 ≤ hourNumberOf h + 1 → HourStepped h (nextHourOf h)
   unfolding nextHourOf
@@ -111,7 +111,7 @@ first-bit TwentyFour = refl
 pub next-hour-bit : (h : ℕ) → nextHourOf h / 64 % 2 ≡ 0
 unfolding nextHourOf
 next-hour-bit h =
-    elim (decLt (hourNumberOf h + 1) 24)
-      [ yes l ↦ byte-bit (modeOf h) (hourNumberOf h + 1) l
+    elim (decLt (hourNumberOf h + 1) 24) [
+      | yes l ↦ byte-bit (modeOf h) (hourNumberOf h + 1) l
       | no l ↦ rw (past (modeOf h) (hourNumberOf h + 1) (omega arith)) (first-bit (modeOf h))
-      ]
+    ]

@@ -88,11 +88,11 @@ unfolding nextTimeOf asTimeOfDay
 next-as c =
     let s = stepOf 0x00 0x59 (c .seconds) in
     let m = stepOf 0x00 0x59 (c .minutes) in
-    simp
-    ( step-as 0x00 0x59 (c .seconds) sixty
-    , step-as 0x00 0x59 (c .minutes) sixty
-    , next-hour-as (c .hours)
-    , as-step 0x00 0x59 (c .seconds) sixty
-    , read-carried (asField 0x00 0x59) (eqb s 0x00) m (c .minutes) (as-step 0x00 0x59 (c .minutes) sixty)
-    , read-carried asHour (eqb s 0x00 && eqb m 0x00) (nextHourOf (c .hours)) (c .hours) (as-next-hour (c .hours))
+    simp (
+      step-as 0x00 0x59 (c .seconds) sixty,
+      step-as 0x00 0x59 (c .minutes) sixty,
+      next-hour-as (c .hours),
+      as-step 0x00 0x59 (c .seconds) sixty,
+      read-carried (asField 0x00 0x59) (eqb s 0x00) m (c .minutes) (as-step 0x00 0x59 (c .minutes) sixty),
+      read-carried asHour (eqb s 0x00 && eqb m 0x00) (nextHourOf (c .hours)) (c .hours) (as-next-hour (c .hours)),
     )

@@ -35,11 +35,11 @@ module _ (c : TimeOfDay) where
       let s = legalOf 0x00 0x59 (c .seconds) in
       let m = legalOf 0x00 0x59 (c .minutes) in
       let h = ltb (hourNumberOf (c .hours)) 24 in
-      record
-        { seconds = held 0x00 0x59 (c .seconds) (and-left s m (and-left (s && m) h e))
-        ; minutes = held 0x00 0x59 (c .minutes) (and-right s m (and-left (s && m) h e))
-        ; hours = ltb-true (hourNumberOf (c .hours)) 24 (and-right (s && m) h e)
-        }
+      record {
+        seconds = held 0x00 0x59 (c .seconds) (and-left s m (and-left (s && m) h e));
+        minutes = held 0x00 0x59 (c .minutes) (and-right s m (and-left (s && m) h e));
+        hours = ltb-true (hourNumberOf (c .hours)) 24 (and-right (s && m) h e);
+      }
 
   pub time-legal : LegalTime c → legalTimeOf c ≡ true
   unfolding legalTimeOf
@@ -64,11 +64,11 @@ module _ (m : HourMode) (n : ℕ) where
   pub time-of-legal : LegalTime (timeOfDayOf m n)
   unfolding timeOfDayOf
   time-of-legal =
-      record
-        { seconds = byte-held 0x00 0x59 (n % 60) sixty (omega arith) (omega arith)
-        ; minutes = byte-held 0x00 0x59 (n / 60 % 60) sixty (omega arith) (omega arith)
-        ; hours = rw (number-byte m (n / 3600 % 24) (omega arith)) (omega arith)
-        }
+      record {
+        seconds = byte-held 0x00 0x59 (n % 60) sixty (omega arith) (omega arith);
+        minutes = byte-held 0x00 0x59 (n / 60 % 60) sixty (omega arith) (omega arith);
+        hours = rw (number-byte m (n / 3600 % 24) (omega arith)) (omega arith);
+      }
 
   pub time-of-mode : modeOf (timeOfDayOf m n .hours) ≡ m
   unfolding timeOfDayOf
@@ -77,10 +77,10 @@ module _ (m : HourMode) (n : ℕ) where
   pub second-again : n < 86400 → secondOf (timeOfDayOf m n) ≡ n
   unfolding timeOfDayOf secondOf
   second-again h =
-      rw
-      ( value-byte (n % 60) (omega arith)
-      , value-byte (n / 60 % 60) (omega arith)
-      , number-byte m (n / 3600 % 24) (omega arith)
+      rw (
+        value-byte (n % 60) (omega arith),
+        value-byte (n / 60 % 60) (omega arith),
+        number-byte m (n / 3600 % 24) (omega arith),
       )
       (omega arith)
 

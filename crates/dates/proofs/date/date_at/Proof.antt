@@ -1,63 +1,55 @@
+-- A day of the century falls into the month that is found, and the date is the definition's. Assumes nothing.
+use native.Mathlib.Omega.{arith}
+use borrow.Author.Tests.{lt-ltb, le-ltb}
+use Rattle.dates.specs.Dates.{dateOf}
+use Rattle.dates.proofs.MonthLaws.{Falls, falls, days-small}
 use borrow.Author.Needs.{needs}
 use Rattle.dates.proofs.date.date_at.Statement.{statement}
 use Rattle.dates.proofs.date.date_at.Tie as tie
-use Rattle.dates.proofs.date.date_at.Reads as reads
-use Rattle.dates.proofs.date.date_at.Lts as lts
-use Rattle.dates.proofs.table.first_day.Reads as first-day-reads
-use Rattle.dates.proofs.table.month_of.Reads as month-of-reads
-use Rattle.fields.proofs.byte.Reads as byte-reads
 
--- src/date.rt:75:13
+month : (c : tie.After-month-of) → Falls (c .month-of .result) (c .before .before .args .n)
+month c = rw (c .month-of .ensures) (falls (c .before .before .args .n) (c .before .if1 .taken))
+
 month-of-requires : tie.Need-month-of-requires
 month-of-requires c κs = search needs
 
--- src/date.rt:77:28
 first-day-requires : tie.Need-first-day-requires
-first-day-requires c κs = ?
+first-day-requires c κs = month c .month
 
--- src/date.rt:77:24
 sub-byte : tie.Need-sub-byte
-sub-byte c = ?
+sub-byte c = rw (c .first-day .ensures) (month (c .before) .from)
 
--- src/date.rt:77:24
 add-byte : tie.Need-add-byte
 add-byte c = search needs
 
--- src/date.rt:77:23
 cast-byte : tie.Need-cast-byte
-cast-byte c = ?
+cast-byte c = rw (c .first-day .ensures) (omega (arith, month (c .before) .from, month (c .before) .until, days-small (c .before .month-of .result)))
 
--- src/date.rt:77:18
 byte-requires : tie.Need-byte-requires
 byte-requires c κs = search needs
 
--- src/date.rt:78:26
 add-byte-2 : tie.Need-add-byte-2
 add-byte-2 c = search needs
 
--- src/date.rt:78:25
 cast-byte-2 : tie.Need-cast-byte-2
 cast-byte-2 c = search needs
 
--- src/date.rt:78:20
 byte-requires-2 : tie.Need-byte-requires-2
 byte-requires-2 c κs = search needs
 
--- src/date.rt:79:24
 cast-byte-3 : tie.Need-cast-byte-3
-cast-byte-3 c = ?
+cast-byte-3 c = omega (arith, month (c .before .before .before) .month)
 
--- src/date.rt:79:19
 byte-requires-3 : tie.Need-byte-requires-3
 byte-requires-3 c κs = search needs
 
--- src/date.rt:71:1
 returns : tie.Need-returns
-returns c = ?
+unfolding dateOf
+returns c = simp (lt-ltb _ _ (c .before .before .before .before .before .if1 .taken), c .byte3 .ensures, c .before .byte2 .ensures, c .before .before .byte .ensures, c .before .before .before .first-day .ensures, c .before .before .before .before .month-of .ensures)
 
--- src/date.rt:71:1
 returns-2 : tie.Need-returns-2
-returns-2 c = ?
+unfolding dateOf
+returns-2 c = simp (le-ltb _ _ (c .if1 .left))
 
 pub date-at-spec : {M : Type 1} → statement M
 date-at-spec =

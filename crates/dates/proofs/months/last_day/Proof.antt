@@ -1,42 +1,39 @@
+-- Each arm is a case of the definition, in its order. Assumes nothing.
+use borrow.Author.Tests.{ne-eqb}
+use Rattle.dates.specs.Months.{lastDayOf}
 use borrow.Author.Needs.{needs}
 use Rattle.dates.proofs.months.last_day.Statement.{statement}
 use Rattle.dates.proofs.months.last_day.Tie as tie
-use Rattle.dates.proofs.months.last_day.Reads as reads
-use Rattle.dates.proofs.months.last_day.Lts as lts
-use Rattle.dates.proofs.months.leap.Reads as leap-reads
-use Rattle.fields.proofs.pick.Reads as pick-reads
 
--- src/months.rt:20:22
 leap-requires : tie.Need-leap-requires
 leap-requires c κs = search needs
 
--- src/months.rt:20:17
 pick-requires : tie.Need-pick-requires
 pick-requires c κs = search needs
 
--- src/months.rt:16:1
 returns : tie.Need-returns
-returns c = ?
+unfolding lastDayOf
+returns c = simp (c .before .before .match .keys1, c .pick .ensures, c .before .leap .ensures)
 
--- src/months.rt:16:1
 returns-2 : tie.Need-returns-2
-returns-2 c = ?
+unfolding lastDayOf
+returns-2 c = simp (c .match .keys2)
 
--- src/months.rt:16:1
 returns-3 : tie.Need-returns-3
-returns-3 c = ?
+unfolding lastDayOf
+returns-3 c = simp (c .match .keys3)
 
--- src/months.rt:16:1
 returns-4 : tie.Need-returns-4
-returns-4 c = ?
+unfolding lastDayOf
+returns-4 c = simp (c .match .keys4)
 
--- src/months.rt:16:1
 returns-5 : tie.Need-returns-5
-returns-5 c = ?
+unfolding lastDayOf
+returns-5 c = simp (c .match .keys5)
 
--- src/months.rt:16:1
 returns-6 : tie.Need-returns-6
-returns-6 c = ?
+unfolding lastDayOf
+returns-6 c = simp (ne-eqb _ _ (c .match .rest .0 .0 .0 .0 .1), ne-eqb _ _ (c .match .rest .0 .0 .0 .1), ne-eqb _ _ (c .match .rest .0 .0 .1), ne-eqb _ _ (c .match .rest .0 .1), ne-eqb _ _ (c .match .rest .1))
 
 pub last-day-spec : {M : Type 1} → statement M
 last-day-spec =

@@ -1,30 +1,27 @@
+-- The day falls into the guessed month or the one before it. Assumes nothing.
+use mathlib.Core.Path.{_∙_, sym, subst}
+use Prim.Native.Nat.{ℕ, _≤_, _<_, _-_}
+use native.Mathlib.Omega.{arith}
+use Rattle.dates.specs.Months.{firstDayOf}
+use Rattle.dates.proofs.MonthLaws.{found, guess-month, guess-late, guess-before}
 use borrow.Author.Needs.{needs}
 use Rattle.dates.proofs.table.month_of.Statement.{statement}
 use Rattle.dates.proofs.table.month_of.Tie as tie
-use Rattle.dates.proofs.table.month_of.Reads as reads
-use Rattle.dates.proofs.table.month_of.Lts as lts
-use Rattle.dates.proofs.table.first_day.Reads as first-day-reads
-use Rattle.dates.proofs.table.guess.Reads as guess-reads
 
--- src/table.rt:1229:9
 guess-requires : tie.Need-guess-requires
 guess-requires c κs = search needs
 
--- src/table.rt:1230:8
 first-day-requires : tie.Need-first-day-requires
-first-day-requires c κs = search needs
+first-day-requires c κs = omega arith
 
--- src/table.rt:1233:9
 sub-result : tie.Need-sub-result
-sub-result c = ?
+sub-result c = guess-late (c .before .before .before .args .n) (c .before .before .guess .result) (c .before .before .before .pre) (c .before .before .guess .ensures) (rw (c .before .first-day .ensures) at (c .if1 .left))
 
--- src/table.rt:1225:1
 returns : tie.Need-returns
-returns c = ?
+returns c = sym (found (c .before .before .guess .result) (c .before .before .before .args .n) (guess-month (c .before .before .before .args .n) (c .before .before .guess .result) (c .before .before .before .pre) (c .before .before .guess .ensures) (rw (c .before .first-day .ensures) at (c .if1 .taken))))
 
--- src/table.rt:1225:1
 returns-2 : tie.Need-returns-2
-returns-2 c = ?
+returns-2 c = sym (found (c .before .before .guess .result - 1) (c .before .before .before .args .n) (guess-before (c .before .before .before .args .n) (c .before .before .guess .result) (c .before .before .before .pre) (c .before .before .guess .ensures) (rw (c .before .first-day .ensures) at (c .if1 .left))))
 
 pub month-of-spec : {M : Type 1} → statement M
 month-of-spec = tie.close (tie.spec guess-requires first-day-requires sub-result returns returns-2)
