@@ -6,11 +6,12 @@ use Prim.Native.Nat.{ℕ, suc, _+_, _-_, _*_, _/_, _%_, _≤_, _<_}
 use native.Mathlib.Nat.{add-zero}
 use native.Mathlib.Omega.{arith}
 use lib.Dec.{ltb, eqb}
-use borrow.Author.Tests.{lt-ltb}
+use borrow.Author.Tests.{lt-ltb, ltb-true, ltb-false}
 use Rattle.fields.specs.Digits.{valueOf, byteOf, legalOf, stepOf}
+use Rattle.fields.proofs.Answers.{Given, given, missing}
 use Rattle.fields.proofs.FieldLaws.{Held, Field, twelve, hundred, byte-held, held, legal-held, and-left, and-right, byte-value, value-byte, value-up, Stepped, up, over, stepped}
 use Rattle.dates.specs.Months.{lastDayOf, monthByteOf, yearByteOf, daysOf, firstDayOf}
-use Rattle.dates.specs.Dates.{legalDateOf, nextDateOf, monthNumberOf, dayOf, dayNumberOf, monthOf, dateIn, dateOf}
+use Rattle.dates.specs.Dates.{legalDateOf, nextDateOf, monthNumberOf, dayOf, dayNumberOf, monthOf, dateIn, dateAtOf}
 use Rattle.dates.specs.declared.date.Date.{Date}
 use Rattle.dates.proofs.MonthLaws.{century, first-zero, first-suc, first-small, Falls, found, falls, day-field, days-small}
 
@@ -113,6 +114,38 @@ module _ (d : Date) (l : LegalDate d) where
       let x = ap byteOf day-back ∙ byte-value (d .day) (l .day .units) (l .day .tens) in
       ap (λ (k : ℕ). dateIn k (dayOf d)) (found (monthNumberOf d) (dayOf d) day-falls)
       ∙ (λ i. record { day = x i; month = month-again i; year = year-again i })
+
+-- exactly the legal dates have a day number
+module _ (d : Date) where
+  pub legal-number : LegalDate d → dayNumberOf d ≡ some (dayOf d)
+  unfolding dayNumberOf
+  legal-number l = simp (date-legal d l)
+
+  pub number-legal : (n : ℕ) → dayNumberOf d ≡ some n → LegalDate d
+  unfolding dayNumberOf
+  number-legal n e = legal-date d (given (legalDateOf d) (dayOf d) n e .holds)
+
+  pub number-day : (n : ℕ) → dayNumberOf d ≡ some n → dayOf d ≡ n
+  unfolding dayNumberOf
+  number-day n e = given (legalDateOf d) (dayOf d) n e .same
+
+  pub number-none : dayNumberOf d ≡ none → legalDateOf d ≡ false
+  unfolding dayNumberOf
+  number-none = missing (legalDateOf d) (dayOf d)
+
+-- exactly the days of the century have a date
+module _ (n : ℕ) where
+  pub date-found : (d : Date) → dateAtOf n ≡ some d → n < 36525
+  unfolding dateAtOf
+  date-found d e = ltb-true n 36525 (given (ltb n 36525) (dateIn (monthOf n) n) d e .holds)
+
+  pub date-is : (d : Date) → dateAtOf n ≡ some d → dateIn (monthOf n) n ≡ d
+  unfolding dateAtOf
+  date-is d e = given (ltb n 36525) (dateIn (monthOf n) n) d e .same
+
+  pub date-none : dateAtOf n ≡ none → 36525 ≤ n
+  unfolding dateAtOf
+  date-none e = ltb-false n 36525 (missing (ltb n 36525) (dateIn (monthOf n) n) e)
 
 -- a day that falls into month k, as a date
 module _ (k n : ℕ) (h : Falls k n) where

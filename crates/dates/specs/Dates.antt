@@ -52,8 +52,8 @@ abbrev pub dateIn : ℕ → ℕ → Date
 dateIn k n = record { day = byteOf (n - firstDayOf k + 1); month = monthByteOf k; year = yearByteOf k }
 
 -- the date of a day number, or none
-unfoldable pub dateOf : ℕ → Option Date
-dateOf n = cond (ltb n 36525) (some (dateIn (monthOf n) n)) none
+unfoldable pub dateAtOf : ℕ → Option Date
+dateAtOf n = cond (ltb n 36525) (some (dateIn (monthOf n) n)) none
 
 -- what the answers say
 abbrev pub dayNumber : DayNumber → Option ℕ

@@ -8,7 +8,7 @@ use fields::pick;
 use fields::step;
 use fields::value;
 ghost use mathlib.Core.Path.{_≡_};
-ghost use Rattle.dates.specs.Dates.{legalDateOf, nextDateOf, dayNumberOf, dateOf, dayNumber, dateFound};
+ghost use Rattle.dates.specs.Dates.{legalDateOf, nextDateOf, dayNumberOf, dateAtOf, dayNumber, dateFound};
 
 pub struct Date {
     pub day: u8,
@@ -18,7 +18,7 @@ pub struct Date {
 
 // The day number, or none for an illegal date. (rule 3.13)
 pub enum DayNumber {
-    Day(u32),
+    Day(u64),
     None,
 }
 
@@ -59,7 +59,7 @@ impl Date {
         if self.legal_date() {
             let y = value(self.year) as usize;
             let m = value(self.month) as usize;
-            let d = value(self.day) as u32;
+            let d = value(self.day) as u64;
             DayNumber::Day(first_day(y * 12 + (m - 1)) + (d - 1))
         } else {
             DayNumber::None
@@ -68,8 +68,8 @@ impl Date {
 }
 
 // The date of a day number. (rules 3.12 and 3.13)
-pub fn date_at(n: u32) -> DateFound
-    ensures { λ r. ⌜ dateFound r ≡ dateOf n ⌝ }
+pub fn date_at(n: u64) -> DateFound
+    ensures { λ r. ⌜ dateFound r ≡ dateAtOf n ⌝ }
 {
     if n < 36525 {
         let k = month_of(n);

@@ -1208,21 +1208,21 @@ const FIRST_DAYS: [u16; 1200] = [
 ];
 
 // The day number on which month k begins.
-pub fn first_day(k: usize) -> u32
+pub fn first_day(k: usize) -> u64
     requires { ⌜ k < 1200 ⌝ }
     ensures { λ r. ⌜ r ≡ firstDayOf k ⌝ }
 {
     wide(FIRST_DAYS[k])
 }
 
-fn wide(n: u16) -> u32
+fn wide(n: u16) -> u64
     ensures { λ r. ⌜ r ≡ n ⌝ }
 {
-    n as u32
+    n as u64
 }
 
 // The month in which day n of the century falls: the guess, or the month before it.
-pub fn month_of(n: u32) -> usize
+pub fn month_of(n: u64) -> usize
     requires { ⌜ n < 36525 ⌝ }
     ensures { λ r. ⌜ r ≡ monthOf n ⌝ }
 {
@@ -1231,7 +1231,7 @@ pub fn month_of(n: u32) -> usize
 }
 
 // 487 days to 16 months: the month of day n or the one after it.
-fn guess(n: u32) -> usize
+fn guess(n: u64) -> usize
     requires { ⌜ n < 36525 ⌝ }
     ensures { λ r. ⌜ r ≡ min ((n * 16 + 40) / 487) 1199 ⌝ }
 {

@@ -1,7 +1,7 @@
 -- A day of the century falls into the month that is found, and the date is the definition's. Assumes nothing.
 use native.Mathlib.Omega.{arith}
 use borrow.Author.Tests.{lt-ltb, le-ltb}
-use Rattle.dates.specs.Dates.{dateOf}
+use Rattle.dates.specs.Dates.{dateAtOf}
 use Rattle.dates.proofs.MonthLaws.{Falls, falls, days-small}
 use borrow.Author.Needs.{needs}
 use Rattle.dates.proofs.date.date_at.Statement.{statement}
@@ -44,11 +44,11 @@ byte-requires-3 : tie.Need-byte-requires-3
 byte-requires-3 c κs = search needs
 
 returns : tie.Need-returns
-unfolding dateOf
+unfolding dateAtOf
 returns c = simp (lt-ltb _ _ (c .before .before .before .before .before .if1 .taken), c .byte3 .ensures, c .before .byte2 .ensures, c .before .before .byte .ensures, c .before .before .before .first-day .ensures, c .before .before .before .before .month-of .ensures)
 
 returns-2 : tie.Need-returns-2
-unfolding dateOf
+unfolding dateAtOf
 returns-2 c = simp (le-ltb _ _ (c .if1 .left))
 
 pub date-at-spec : {M : Type 1} → statement M

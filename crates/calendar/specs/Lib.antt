@@ -1,0 +1,3 @@
+pub mod Weekdays
+pub mod Advance
+pub mod Numbers

@@ -1,0 +1,84 @@
+// A time: seven bytes in the order of their registers, any values. (rules 2.1, 3.3 and 3.17)
+use crate::weekdays::legal_weekday;
+use crate::weekdays::next_weekday;
+use dates::Date;
+use fields::TimeOfDay;
+use fields::pick;
+ghost use mathlib.Core.Path.{_≡_};
+ghost use Rattle.fields.specs.Times.{legalTimeOf};
+ghost use Rattle.dates.specs.Dates.{legalDateOf};
+ghost use Rattle.calendar.specs.Weekdays.{legalWeekdayOf};
+ghost use Rattle.calendar.specs.Advance.{clockOf, dateOf, advanceOf};
+
+pub struct Time {
+    pub seconds: u8,
+    pub minutes: u8,
+    pub hours: u8,
+    pub weekday: u8,
+    pub day: u8,
+    pub month: u8,
+    pub year: u8,
+}
+
+impl Time {
+    // Its time of day.
+    pub fn clock(self) -> TimeOfDay
+        ensures { λ r. ⌜ r ≡ clockOf self ⌝ }
+    {
+        TimeOfDay {
+            seconds: self.seconds,
+            minutes: self.minutes,
+            hours: self.hours,
+        }
+    }
+
+    // Its date.
+    pub fn date(self) -> Date
+        ensures { λ r. ⌜ r ≡ dateOf self ⌝ }
+    {
+        Date {
+            day: self.day,
+            month: self.month,
+            year: self.year,
+        }
+    }
+
+    // (rule 3.6)
+    pub fn legal_time_of_day(self) -> bool
+        ensures { λ r. ⌜ r ≡ legalTimeOf (clockOf self) ⌝ }
+    {
+        self.clock().legal_time()
+    }
+
+    // (rule 3.11)
+    pub fn legal_date(self) -> bool
+        ensures { λ r. ⌜ r ≡ legalDateOf (dateOf self) ⌝ }
+    {
+        self.date().legal_date()
+    }
+
+    // (rule 3.7)
+    pub fn legal_weekday(self) -> bool
+        ensures { λ r. ⌜ r ≡ legalWeekdayOf (self .weekday) ⌝ }
+    {
+        legal_weekday(self.weekday)
+    }
+
+    // One second on: at midnight the weekday and the date step. (rule 3.17)
+    pub fn advanced(self) -> Time
+        ensures { λ r. ⌜ r ≡ advanceOf self ⌝ }
+    {
+        let clock = self.clock().next();
+        let date = self.date().next();
+        let turns = clock.midnight();
+        Time {
+            seconds: clock.seconds,
+            minutes: clock.minutes,
+            hours: clock.hours,
+            weekday: pick(turns, next_weekday(self.weekday), self.weekday),
+            day: pick(turns, date.day, self.day),
+            month: pick(turns, date.month, self.month),
+            year: pick(turns, date.year, self.year),
+        }
+    }
+}
