@@ -1,1 +1,6 @@
 pub mod MomentLaws
+pub mod WeekdayLaws
+pub mod AdvanceLaws
+pub mod LaterLaws
+pub mod HouseLaws
+pub mod FixedLaws

@@ -1,5 +1,6 @@
 -- A moment, a legal date with a legal time of day, and its second number: the two conversions. Assumes nothing.
 use mathlib.Core.Path.{_≡_, refl, sym, _∙_, ap, ap₂}
+use mathlib.Core.Logic.{_↔_}
 use mathlib.Core.Bool.{Bool, true, false, cond, _&&_}
 use mathlib.Core.Option.{Option, none, some}
 use Prim.Native.Nat.{ℕ, _+_, _*_, _/_, _%_, _≤_, _<_}
@@ -9,7 +10,7 @@ use borrow.Author.Tests.{lt-ltb, ltb-true, ltb-false, le-ltb}
 use Rattle.fields.specs.declared.hours.HourMode.{HourMode}
 use Rattle.fields.specs.Hours.{modeOf}
 use Rattle.fields.specs.Times.{legalTimeOf, secondOf, timeOfDayOf}
-use Rattle.fields.proofs.Answers.{Given, given, missing}
+use Rattle.fields.proofs.Answers.{Given, given, missing, none-when}
 use Rattle.fields.proofs.FieldLaws.{and-left, and-right}
 use Rattle.fields.proofs.TimeLaws.{LegalTime, legal-time, time-legal, second-small, time-again, time-of-legal, time-of-mode, second-again}
 use Rattle.dates.specs.Dates.{legalDateOf, dayOf, monthOf, dateIn}
@@ -109,6 +110,38 @@ module _ (n : ℕ) (m : HourMode) (w : ℕ) where
   unfolding timeAtOf
   time-absent e = ltb-false n 3155760000 (missing (ltb n 3155760000) (timeIn n m w) e)
 
+  pub time-small : (t : Time) → timeAtOf n m w ≡ some t → n < 3155760000
+  unfolding timeAtOf
+  time-small t e = ltb-true n 3155760000 (given (ltb n 3155760000) (timeIn n m w) t e .holds)
+
   pub time-is : (t : Time) → timeAtOf n m w ≡ some t → timeIn n m w ≡ t
   unfolding timeAtOf
   time-is t e = given (ltb n 3155760000) (timeIn n m w) t e .same
+
+-- both round trips, over the answers
+pub number-time : (t : Time) (k : ℕ) → numberOf t ≡ some k → timeAtOf k (modeOf (t .hours)) (t .weekday) ≡ some t
+number-time t k e =
+    time-there k (modeOf (t .hours)) (t .weekday) (number-small t k e)
+    ∙ ap some (ap (λ (n : ℕ). timeIn n (modeOf (t .hours)) (t .weekday)) (sym (number-since t k e)) ∙ time-back t (number-moment t k e))
+
+pub time-number : (n : ℕ) (m : HourMode) (w : ℕ) (t : Time) → timeAtOf n m w ≡ some t → numberOf t ≡ some n
+time-number n m w t e =
+    let h = time-small n m w t e in
+    ap numberOf (sym (time-is n m w t e)) ∙ moment-number (timeIn n m w) (time-moment n m w h) ∙ ap some (since-back n m w h)
+
+-- none exactly for an illegal date or time of day
+pub number-none : (t : Time) → (numberOf t ≡ none) ↔ (legalDateOf (dateOf t) && legalTimeOf (clockOf t) ≡ false)
+unfolding numberOf
+number-none t =
+    let b = legalDateOf (dateOf t) && legalTimeOf (clockOf t) in
+    (missing b (sinceOf t), none-when b (sinceOf t))
+
+-- none exactly for a number of a century or more
+pub time-none : (n : ℕ) (m : HourMode) (w : ℕ) → (timeAtOf n m w ≡ none) ↔ (3155760000 ≤ n)
+unfolding timeAtOf
+time-none n m w = (time-absent n m w, λ h. none-when (ltb n 3155760000) (timeIn n m w) (le-ltb n 3155760000 h))
+
+-- the weekday plays no part
+pub number-weekday : (t : Time) (w : ℕ) → numberOf (joined (clockOf t) w (dateOf t)) ≡ numberOf t
+unfolding numberOf sinceOf
+number-weekday t w = refl

@@ -1,3 +1,6 @@
 pub mod Weekdays
 pub mod Advance
 pub mod Numbers
+pub mod Fixed
+pub mod House
+pub mod Repeat

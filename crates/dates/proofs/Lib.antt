@@ -1,3 +1,4 @@
 mod MonthTests
 pub mod MonthLaws
 pub mod DateLaws
+pub mod HouseLaws

@@ -8,7 +8,7 @@ use lib.Dec.{T, leb, ltb, eqb, leb→le, ltb→lt}
 use borrow.Author.Tests.{lt-ltb, le-ltb}
 use Rattle.fields.specs.Digits.{valueOf}
 use Rattle.fields.proofs.Below.{both-left, both-right}
-use Rattle.fields.proofs.FieldLaws.{Field}
+use Rattle.fields.proofs.FieldLaws.{Field, value-up}
 use Rattle.dates.specs.Months.{leapOf, lastDayOf, monthByteOf, yearByteOf, daysOf, firstDayOf}
 use Rattle.dates.specs.Dates.{monthFrom, monthOf}
 use Rattle.dates.proofs.MonthTests.{every-month}
@@ -154,12 +154,15 @@ ends-field d31 = omega arith
 pub day-field : (month year : ℕ) → Field 0x01 (lastDayOf month year)
 day-field month year = ends-field (ends month year)
 
-ends-small : {x : ℕ} → Ends x → valueOf x ≤ 31
-ends-small d28 = omega arith
-ends-small d29 = omega arith
-ends-small d30 = omega arith
-ends-small d31 = omega arith
+ends-by : {x : ℕ} → Ends x → x ≤ 0x31
+ends-by d28 = omega arith
+ends-by d29 = omega arith
+ends-by d30 = omega arith
+ends-by d31 = omega arith
+
+pub last-small : (month year : ℕ) → lastDayOf month year ≤ 0x31
+last-small month year = ends-by (ends month year)
 
 pub days-small : (k : ℕ) → daysOf k ≤ 31
 unfolding daysOf
-days-small k = ends-small (ends (monthByteOf k) (yearByteOf k))
+days-small k = value-up (lastDayOf (monthByteOf k) (yearByteOf k)) 0x31 (day-field (monthByteOf k) (yearByteOf k) .end .units) (omega arith) (last-small (monthByteOf k) (yearByteOf k))

@@ -1,2 +1,3 @@
 pub mod Months
 pub mod Dates
+pub mod House

@@ -104,6 +104,9 @@ unfolding codes hourByteOf
 byte-bit Twelve = agree (λ (n : ℕ). hourByteOf Twelve n / 64 % 2) (λ (n : ℕ). 0) 24 tt
 byte-bit TwentyFour = agree (λ (n : ℕ). hourByteOf TwentyFour n / 64 % 2) (λ (n : ℕ). 0) 24 tt
 
+pub legal-hour-bit : (h : ℕ) → hourNumberOf h < 24 → h / 64 % 2 ≡ 0
+legal-hour-bit h l = ap (λ (x : ℕ). x / 64 % 2) (sym (byte-number h l)) ∙ byte-bit (modeOf h) (hourNumberOf h) l
+
 first-bit : (m : HourMode) → firstHour m / 64 % 2 ≡ 0
 first-bit Twelve = refl
 first-bit TwentyFour = refl

@@ -1,13 +1,13 @@
 -- The house rule: stepping an illegal field is stepping its last value, and a step ends legal. Assumes nothing.
 use mathlib.Core.Path.{_≡_, refl, sym, _∙_, ap}
-use mathlib.Core.Bool.{Bool, true, false, cond, _&&_, true≢false}
+use mathlib.Core.Bool.{Bool, true, false, cond, _&&_, true≢false, false≢true}
 use Prim.Native.Nat.{ℕ, _+_, _≤_, _<_}
 use native.Mathlib.Omega.{arith}
 use lib.Dec.{ltb, eqb}
-use borrow.Author.Tests.{lt-ltb}
+use borrow.Author.Tests.{lt-ltb, ne-eqb}
 use Rattle.fields.specs.Digits.{legalOf, stepOf}
 use Rattle.fields.specs.Hours.{modeOf, codes, firstHour, placeOf, legalHourOf, hourNumberOf, hourByteOf, nextHourOf}
-use Rattle.fields.specs.Times.{nextTimeOf}
+use Rattle.fields.specs.Times.{nextTimeOf, midnightOf}
 use Rattle.fields.specs.House.{asField, lastHour, asHour, asTimeOfDay}
 use Rattle.fields.specs.declared.hours.HourMode.{HourMode}
 use Rattle.fields.specs.declared.hours.HourMode.the-variants.{Twelve, TwentyFour}
@@ -95,4 +95,28 @@ next-as c =
       as-step 0x00 0x59 (c .seconds) sixty,
       read-carried (asField 0x00 0x59) (eqb s 0x00) m (c .minutes) (as-step 0x00 0x59 (c .minutes) sixty),
       read-carried asHour (eqb s 0x00 && eqb m 0x00) (nextHourOf (c .hours)) (c .hours) (as-next-hour (c .hours)),
+    )
+
+-- the reading moves nothing to midnight and nothing away from it
+zero-as : (x : ℕ) (t : Bool) → legalOf 0x00 0x59 x ≡ t → eqb (cond t x 0x59) 0x00 ≡ eqb x 0x00
+zero-as x true e = refl
+zero-as x false e = sym (ne-eqb x 0x00 (λ (p : x ≡ 0x00). false≢true (sym e ∙ ap (legalOf 0x00 0x59) p)))
+
+last-not-first : (m : HourMode) → eqb (lastHour m) (firstHour (modeOf (lastHour m))) ≡ false
+last-not-first Twelve = refl
+last-not-first TwentyFour = refl
+
+first-as : (h : ℕ) (t : Bool) → legalHourOf h ≡ t → eqb (cond t h (lastHour (modeOf h))) (firstHour (modeOf (cond t h (lastHour (modeOf h))))) ≡ eqb h (firstHour (modeOf h))
+first-as h true e = refl
+first-as h false e =
+    last-not-first (modeOf h)
+    ∙ sym (ne-eqb h (firstHour (modeOf h)) (λ (p : h ≡ firstHour (modeOf h)). false≢true (sym e ∙ lt-ltb (hourNumberOf h) 24 (rw p (omega (arith, number-first (modeOf h)))))))
+
+pub midnight-as : (c : TimeOfDay) → midnightOf (asTimeOfDay c) ≡ midnightOf c
+unfolding midnightOf asTimeOfDay asField asHour
+midnight-as c =
+    simp (
+      zero-as (c .seconds) (legalOf 0x00 0x59 (c .seconds)) refl,
+      zero-as (c .minutes) (legalOf 0x00 0x59 (c .minutes)) refl,
+      first-as (c .hours) (legalHourOf (c .hours)) refl,
     )
