@@ -17,6 +17,7 @@ use Rattle.calendar.specs.Weekdays.{nextWeekdayOf}
 use Rattle.calendar.specs.Advance.{clockOf, dateOf, turnedTo, advanceOf}
 use Rattle.calendar.specs.Numbers.{sinceOf, numberOf}
 use Rattle.calendar.specs.declared.time.Time.{Time}
+use Rattle.calendar.proofs.WeekdayLaws.{next-small, next-weekday}
 use Rattle.calendar.proofs.MomentLaws.{Moment, since-small, number-moment, number-since, moment-number}
 
 -- what one second makes of a moment
@@ -70,7 +71,7 @@ module _ (t : Time) (l : Moment t) where
   advances =
       by-turn (nextTimeOf (clockOf t)) (nextDateOf (dateOf t)) (turns-over (clockOf t) (l .clock)) (next-day (dateOf t) (l .date))
 
--- the second number after one second, or still none to be lost: a moment stays one
+-- the number after one second is the next one of the century
 pub advance-number : (t : Time) (k : ℕ) → numberOf t ≡ some k → numberOf (advanceOf t) ≡ some ((k + 1) % 3155760000)
 advance-number t k e =
     let a = advances t (number-moment t k e) in
@@ -85,6 +86,19 @@ advance-mode t = next-mode (clockOf t)
 pub advance-weekday : (t : Time) → advanceOf t .weekday ≡ cond (midnightOf (clockOf (advanceOf t))) (nextWeekdayOf (t .weekday)) (t .weekday)
 unfolding advanceOf
 advance-weekday t = refl
+
+-- a legal weekday stays legal, whatever the date is
+pub advance-weekday-legal : (t : Time) → t .weekday < 7 → advanceOf t .weekday < 7
+advance-weekday-legal t h =
+    rw (advance-weekday t) (picked-small (midnightOf (clockOf (advanceOf t))) (nextWeekdayOf (t .weekday)) (t .weekday) (next-small (t .weekday)) h)
+  where
+    picked-small : (b : Bool) (x y : ℕ) → x < 7 → y < 7 → cond b x y < 7
+    picked-small true x y p q = p
+    picked-small false x y p q = q
+
+-- a legal weekday is one more modulo 7 exactly when the day turns
+pub weekday-turns : (t : Time) → Moment t → t .weekday < 7 → advanceOf t .weekday ≡ cond (eqb ((sinceOf t + 1) % 86400) 0) ((t .weekday + 1) % 7) (t .weekday)
+weekday-turns t l h = rw (← next-weekday (t .weekday) h) (advances t l .weekday)
 
 turned-date : (t : Time) (c : TimeOfDay) (d : Date) (b : Bool) → dateOf (turnedTo t c d b) ≡ cond b d (dateOf t)
 turned-date t c d true = refl

@@ -1,5 +1,6 @@
 -- n seconds on in closed form: n single seconds come to the time that the sum of the numbers says. Assumes nothing.
 use mathlib.Core.Path.{_≡_, refl, sym, _∙_, ap, ap₂}
+use mathlib.Core.Logic.{_↔_}
 use mathlib.Core.Bool.{Bool, true, false, cond}
 use mathlib.Core.Option.{Option, none, some}
 use Prim.Native.Nat.{ℕ, zero, suc, _+_, _/_, _%_, _<_}
@@ -76,3 +77,15 @@ module _ (t : Time) (l : Moment t) where
   pub later-times : (n : ℕ) → laterOf t n ≡ some (times advanceOf n t)
   unfolding laterOf
   later-times n = rw (moment-number t l) (ap some (sym (placed n (times advanceOf n t) (reached n))))
+
+-- none exactly where the time has no second number
+later-by : (t : Time) (n : ℕ) (k : Option ℕ) → (laterFrom t n k ≡ none) ↔ (k ≡ none)
+later-by t n none = (λ e. refl, λ e. refl)
+later-by t n (some k) = (
+  λ e. absurd (let z : _≡_ {A = ℕ} 0 1 = cc in omega arith),
+  λ e. absurd (let z : _≡_ {A = ℕ} 0 1 = cc in omega arith),
+)
+
+pub later-none : (t : Time) (n : ℕ) → (laterOf t n ≡ none) ↔ (numberOf t ≡ none)
+unfolding laterOf
+later-none t n = later-by t n (numberOf t)

@@ -4,3 +4,4 @@ pub mod AdvanceLaws
 pub mod LaterLaws
 pub mod HouseLaws
 pub mod FixedLaws
+mod Settled

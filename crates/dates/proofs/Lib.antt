@@ -2,3 +2,4 @@ mod MonthTests
 pub mod MonthLaws
 pub mod DateLaws
 pub mod HouseLaws
+mod Settled

@@ -37,13 +37,15 @@ module _ (first last x : ℕ) (f : Field first last) where
   step-last : stepOf first last last ≡ first
   step-last = over-first first last last f (stepOf first last last) (stepped first last last f) (λ h. refl)
 
+  -- an illegal field that must step comes to its first value, and so carries
+  pub illegal-step : legalOf first last x ≡ false → stepOf first last x ≡ first
+  illegal-step e =
+      over-first first last x f (stepOf first last x) (stepped first last x f)
+      (λ (h : Held first last x). absurd (true≢false (sym (legal-held first last x h) ∙ e)))
+
   as-by : (t : Bool) → legalOf first last x ≡ t → stepOf first last (cond t x last) ≡ stepOf first last x
   as-by true e = refl
-  as-by false e =
-      step-last
-      ∙ sym
-      (over-first first last x f (stepOf first last x) (stepped first last x f)
-      (λ (h : Held first last x). absurd (true≢false (sym (legal-held first last x h) ∙ e))))
+  as-by false e = step-last ∙ sym (illegal-step e)
 
   pub step-as : stepOf first last (asField first last x) ≡ stepOf first last x
   unfolding asField
@@ -69,13 +71,30 @@ module _ (h : ℕ) where
   illegal-next s (later b n t) e = absurd (true≢false (sym (lt-ltb (hourNumberOf h) 24 (omega arith)) ∙ e))
   illegal-next s (turns b n t) e = n
 
+  -- an illegal hour that must step comes to its mode's first
+  pub illegal-hour : legalHourOf h ≡ false → nextHourOf h ≡ firstHour (modeOf h)
+  illegal-hour e = illegal-next (nextHourOf h) (hour-stepped h) e
+
   hour-by : (t : Bool) → legalHourOf h ≡ t → nextHourOf (cond t h (lastHour (modeOf h))) ≡ nextHourOf h
   hour-by true e = refl
-  hour-by false e = next-last (modeOf h) ∙ sym (illegal-next (nextHourOf h) (hour-stepped h) e)
+  hour-by false e = next-last (modeOf h) ∙ sym (illegal-hour e)
 
   pub next-hour-as : nextHourOf (asHour h) ≡ nextHourOf h
   unfolding asHour
   next-hour-as = hour-by (legalHourOf h) refl
+
+-- what no carry reaches stays as held
+pub next-kept : (c : TimeOfDay) → eqb (nextTimeOf c .seconds) 0x00 ≡ false → nextTimeOf c ≡ record { seconds = nextTimeOf c .seconds; minutes = c .minutes; hours = c .hours }
+unfolding nextTimeOf
+next-kept c e = simp e
+
+pub hour-kept : (c : TimeOfDay) → eqb (nextTimeOf c .minutes) 0x00 ≡ false → nextTimeOf c .hours ≡ c .hours
+unfolding nextTimeOf
+hour-kept c e = kept (eqb (stepOf 0x00 0x59 (c .seconds)) 0x00) (stepOf 0x00 0x59 (c .minutes)) (c .minutes) (nextHourOf (c .hours)) (c .hours) e
+  where
+    kept : (b : Bool) (m n h k : ℕ) → eqb (cond b m n) 0x00 ≡ false → cond (b && eqb m 0x00) h k ≡ k
+    kept true m n h k e = simp e
+    kept false m n h k e = refl
 
 -- a reading of what a carry may have changed
 pub read-carried : (read : ℕ → ℕ) (b : Bool) (x y : ℕ) → read x ≡ x → cond b x (read y) ≡ read (cond b x y)
