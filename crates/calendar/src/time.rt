@@ -1,5 +1,4 @@
 // A time: seven bytes in the order of their registers, any values. (rules 2.1, 3.3 and 3.17)
-use crate::weekdays::legal_weekday;
 use crate::weekdays::next_weekday;
 use dates::Date;
 use fields::TimeOfDay;
@@ -61,7 +60,7 @@ impl Time {
     pub fn legal_weekday(self) -> bool
         ensures { λ r. ⌜ r ≡ legalWeekdayOf (self .weekday) ⌝ }
     {
-        legal_weekday(self.weekday)
+        self.weekday < 7
     }
 
     // One second on: at midnight the weekday and the date step. (rule 3.17)

@@ -1,13 +1,8 @@
 // The weekday. (rule 3.7)
 ghost use mathlib.Core.Path.{_≡_};
-ghost use Rattle.calendar.specs.Weekdays.{legalWeekdayOf, nextWeekdayOf, weekdayOnOf};
+ghost use Rattle.calendar.specs.Weekdays.{nextWeekdayOf, weekdayOnOf};
 
-pub fn legal_weekday(w: u8) -> bool
-    ensures { λ r. ⌜ r ≡ legalWeekdayOf w ⌝ }
-{
-    w < 7
-}
-
+// The weekday of the next day.
 pub fn next_weekday(w: u8) -> u8
     ensures { λ r. ⌜ r ≡ nextWeekdayOf w ⌝ }
 {

@@ -9,7 +9,8 @@ ghost use Rattle.dates.specs.Months.{leapOf, lastDayOf};
 pub fn leap(year: u8) -> bool
     ensures { λ r. ⌜ r ≡ leapOf year ⌝ }
 {
-    legal(year, 0x00, 0x99) & (value(year) % 4 == 0)
+    let number = value(year);
+    legal(year, 0x00, 0x99) & (number % 4 == 0)
 }
 
 // The last day of a month, as the field holds it; an illegal month has 31 days. (rule 3.9)
