@@ -17,7 +17,7 @@ EPOCH = datetime(2000, 1, 1)
 SECOND = timedelta(seconds=1)
 CENTURY = (datetime(2100, 1, 1) - EPOCH) // SECOND  # 3,155,760,000 (3.14)
 
-NONE = 4294967295  # mixed in where the rules say that there is none
+NONE = 4294967290  # mixed in where the rules say that there is none; no other figure is as high
 
 
 # Digests and random numbers

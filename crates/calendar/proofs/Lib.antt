@@ -4,4 +4,5 @@ pub mod AdvanceLaws
 pub mod LaterLaws
 pub mod HouseLaws
 pub mod FixedLaws
+mod Examples
 mod Settled

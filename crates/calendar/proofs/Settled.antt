@@ -13,10 +13,6 @@ use Rattle.calendar.proofs.time.Time.clock.Kinds as clock-kinds
 use Rattle.calendar.proofs.time.Time.clock.Reads as clock-reads
 use Rattle.calendar.proofs.time.Time.date.Kinds as date-kinds
 use Rattle.calendar.proofs.time.Time.date.Reads as date-reads
-use Rattle.calendar.proofs.time.Time.legal_time_of_day.Kinds as legal-time-of-day-kinds
-use Rattle.calendar.proofs.time.Time.legal_time_of_day.Reads as legal-time-of-day-reads
-use Rattle.calendar.proofs.time.Time.legal_date.Kinds as legal-date-kinds
-use Rattle.calendar.proofs.time.Time.legal_date.Reads as legal-date-reads
 use Rattle.calendar.proofs.time.Time.legal_weekday.Kinds as legal-weekday-kinds
 use Rattle.calendar.proofs.time.Time.legal_weekday.Reads as legal-weekday-reads
 use Rattle.calendar.proofs.time.Time.advanced.Kinds as advanced-kinds
@@ -50,12 +46,6 @@ clock-settles κs a e f x y = settled (λ z. z) (λ z. z) (λ z. refl)
 
 pub date-settles : Settles 0 date-kinds.ps date-kinds.r date-reads.Post
 date-settles κs a e f x y = settled (λ z. z) (λ z. z) (λ z. refl)
-
-pub legal-time-of-day-settles : Settles 0 legal-time-of-day-kinds.ps legal-time-of-day-kinds.r legal-time-of-day-reads.Post
-legal-time-of-day-settles κs a e f x y = settled (λ z. z) (λ z. z) (λ z. refl)
-
-pub legal-date-settles : Settles 0 legal-date-kinds.ps legal-date-kinds.r legal-date-reads.Post
-legal-date-settles κs a e f x y = settled (λ z. z) (λ z. z) (λ z. refl)
 
 pub legal-weekday-settles : Settles 0 legal-weekday-kinds.ps legal-weekday-kinds.r legal-weekday-reads.Post
 legal-weekday-settles κs a e f x y = settled (λ z. z) (λ z. z) (λ z. refl)

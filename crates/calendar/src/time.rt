@@ -4,8 +4,6 @@ use dates::Date;
 use fields::TimeOfDay;
 use fields::pick;
 ghost use mathlib.Core.Path.{_≡_};
-ghost use Rattle.fields.specs.Times.{legalTimeOf};
-ghost use Rattle.dates.specs.Dates.{legalDateOf};
 ghost use Rattle.calendar.specs.Weekdays.{legalWeekdayOf};
 ghost use Rattle.calendar.specs.Advance.{clockOf, dateOf, advanceOf};
 
@@ -20,7 +18,7 @@ pub struct Time {
 }
 
 impl Time {
-    // Its time of day.
+    // Its time of day, which tells whether it is legal. (rule 3.6)
     pub fn clock(self) -> TimeOfDay
         ensures { λ r. ⌜ r ≡ clockOf self ⌝ }
     {
@@ -31,7 +29,7 @@ impl Time {
         }
     }
 
-    // Its date.
+    // Its date, which tells whether it is legal. (rule 3.11)
     pub fn date(self) -> Date
         ensures { λ r. ⌜ r ≡ dateOf self ⌝ }
     {
@@ -42,21 +40,7 @@ impl Time {
         }
     }
 
-    // (rule 3.6)
-    pub fn legal_time_of_day(self) -> bool
-        ensures { λ r. ⌜ r ≡ legalTimeOf (clockOf self) ⌝ }
-    {
-        self.clock().legal_time()
-    }
-
-    // (rule 3.11)
-    pub fn legal_date(self) -> bool
-        ensures { λ r. ⌜ r ≡ legalDateOf (dateOf self) ⌝ }
-    {
-        self.date().legal_date()
-    }
-
-    // (rule 3.7)
+    // The weekday is judged by itself. (rule 3.7)
     pub fn legal_weekday(self) -> bool
         ensures { λ r. ⌜ r ≡ legalWeekdayOf (self .weekday) ⌝ }
     {

@@ -42,7 +42,8 @@ impl Date {
     pub fn next(self) -> Date
         ensures { λ r. ⌜ r ≡ nextDateOf self ⌝ }
     {
-        let d = step(self.day, 0x01, last_day(self.month, self.year));
+        let held = self.day;
+        let d = step(held, 0x01, last_day(self.month, self.year));
         let m = step(self.month, 0x01, 0x12);
         let y = step(self.year, 0x00, 0x99);
         Date {
