@@ -37,6 +37,6 @@ after =
     ∷ []
 
 -- the century's end, both Februaries, noon, midnight, the hour after it, and an illegal second
-pub examples : map advanceOf before ≡ after
+examples : map advanceOf before ≡ after
 unfolding before after advanceOf nextTimeOf midnightOf nextDateOf stepOf nextHourOf hourNumberOf hourByteOf codes placeOf leapOf lastDayOf
 examples = refl
