@@ -1,15 +1,15 @@
 -- One second on for a moment: it stays a moment, and its number is the next of the century. Assumes nothing.
-use mathlib.Core.Path.{_≡_, refl, sym, _∙_, ap}
+use mathlib.Core.Path.{_≡_, refl, _∙_, ap}
 use mathlib.Core.Bool.{Bool, true, false, cond}
-use mathlib.Core.Option.{Option, some}
-use Prim.Native.Nat.{ℕ, _+_, _*_, _/_, _%_, _<_}
+use mathlib.Core.Option.{some}
+use Prim.Native.Nat.{ℕ, _+_, _*_, _%_, _<_}
 use native.Mathlib.Omega.{arith}
 use lib.Dec.{eqb}
 use borrow.Author.Tests.{eq-eqb, ne-eqb}
 use Rattle.fields.specs.declared.times.TimeOfDay.{TimeOfDay}
 use Rattle.fields.specs.Hours.{modeOf}
 use Rattle.fields.specs.Times.{secondOf, nextTimeOf, midnightOf}
-use Rattle.fields.proofs.TimeLaws.{LegalTime, second-small, Turned, on, past, turns-over, next-mode}
+use Rattle.fields.proofs.TimeLaws.{second-small, Turned, on, past, turns-over, next-mode}
 use Rattle.dates.specs.declared.date.Date.{Date}
 use Rattle.dates.specs.Dates.{dayOf, nextDateOf}
 use Rattle.dates.proofs.DateLaws.{NextDay, next-day, day-small}

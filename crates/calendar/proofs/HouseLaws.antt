@@ -1,8 +1,7 @@
 -- The house rule for every time: one second on and the reading of illegal fields can be had in either order. Assumes nothing.
 use mathlib.Core.Path.{_≡_, refl, sym, _∙_, ap, ap₂}
-use mathlib.Core.Bool.{Bool, true, false, cond}
-use Prim.Native.Nat.{ℕ, _<_}
-use native.Mathlib.Omega.{arith}
+use mathlib.Core.Bool.{Bool, true, false}
+use Prim.Native.Nat.{ℕ}
 use Rattle.fields.specs.declared.times.TimeOfDay.{TimeOfDay}
 use Rattle.fields.specs.Times.{nextTimeOf, midnightOf}
 use Rattle.fields.specs.House.{asTimeOfDay}
@@ -12,7 +11,7 @@ use Rattle.dates.specs.declared.date.Date.{Date}
 use Rattle.dates.specs.Dates.{nextDateOf}
 use Rattle.dates.specs.House.{asDate}
 use Rattle.dates.proofs.HouseLaws as dates
-use Rattle.calendar.specs.Weekdays.{nextWeekdayOf, asWeekday}
+use Rattle.calendar.specs.Weekdays.{nextWeekdayOf}
 use Rattle.calendar.specs.Advance.{clockOf, dateOf, turnedTo, advanceOf}
 use Rattle.calendar.specs.Numbers.{joined}
 use Rattle.calendar.specs.House.{asTime}

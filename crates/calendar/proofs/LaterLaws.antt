@@ -1,9 +1,9 @@
 -- n seconds on in closed form: n single seconds come to the time that the sum of the numbers says. Assumes nothing.
-use mathlib.Core.Path.{_≡_, refl, sym, _∙_, ap, ap₂}
+use mathlib.Core.Path.{_≡_, refl, sym, _∙_, ap}
 use mathlib.Core.Logic.{_↔_}
-use mathlib.Core.Bool.{Bool, true, false, cond}
+use mathlib.Core.Bool.{cond}
 use mathlib.Core.Option.{Option, none, some}
-use Prim.Native.Nat.{ℕ, zero, suc, _+_, _/_, _%_, _<_}
+use Prim.Native.Nat.{ℕ, zero, suc, _+_, _/_, _%_}
 use native.Mathlib.Decide.{ℕ-discrete}
 use native.Mathlib.Omega.{arith}
 use lib.Dec.{eqb}
@@ -16,7 +16,7 @@ use Rattle.calendar.specs.Repeat.{times}
 use Rattle.calendar.specs.declared.time.Time.{Time}
 use Rattle.calendar.proofs.MomentLaws.{Moment, since-small, moment-number, time-back}
 use Rattle.calendar.proofs.WeekdayLaws.{on-zero, on-step}
-use Rattle.calendar.proofs.AdvanceLaws.{Advanced, advances, advance-mode}
+use Rattle.calendar.proofs.AdvanceLaws.{advances, advance-mode}
 
 -- u is t after n seconds, part by part
 record Reached (t : Time) (n : ℕ) (u : Time) : Type 0 where

@@ -1,8 +1,8 @@
 -- A moment, a legal date with a legal time of day, and its second number: the two conversions. Assumes nothing.
 use mathlib.Core.Path.{_≡_, refl, sym, _∙_, ap, ap₂}
 use mathlib.Core.Logic.{_↔_}
-use mathlib.Core.Bool.{Bool, true, false, cond, _&&_}
-use mathlib.Core.Option.{Option, none, some}
+use mathlib.Core.Bool.{true, false, _&&_}
+use mathlib.Core.Option.{none, some}
 use Prim.Native.Nat.{ℕ, _+_, _*_, _/_, _%_, _≤_, _<_}
 use native.Mathlib.Omega.{arith}
 use lib.Dec.{ltb}
@@ -10,7 +10,7 @@ use borrow.Author.Tests.{lt-ltb, ltb-true, ltb-false, le-ltb}
 use Rattle.fields.specs.declared.hours.HourMode.{HourMode}
 use Rattle.fields.specs.Hours.{modeOf}
 use Rattle.fields.specs.Times.{legalTimeOf, secondOf, timeOfDayOf}
-use Rattle.fields.proofs.Answers.{Given, given, missing, none-when}
+use Rattle.fields.proofs.Answers.{given, missing, none-when}
 use Rattle.fields.proofs.FieldLaws.{and-left, and-right}
 use Rattle.fields.proofs.TimeLaws.{LegalTime, legal-time, time-legal, second-small, time-again, time-of-legal, time-of-mode, second-again}
 use Rattle.dates.specs.Dates.{legalDateOf, dayOf, monthOf, dateIn}

@@ -1,4 +1,4 @@
-// The time that both chips keep: which times are legal, one second on, and second numbers.
+// The time that a clock keeps: one second on for any bytes, second numbers, any number of seconds on.
 mod numbers;
 mod time;
 mod weekdays;

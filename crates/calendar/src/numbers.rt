@@ -10,7 +10,7 @@ use fields::time_of_day;
 ghost use mathlib.Core.Path.{_≡_};
 ghost use Rattle.calendar.specs.Numbers.{numberOf, timeAtOf, daysOnOf, laterOf, secondNumber, timeFound};
 
-// The seconds of a century.
+// The seconds of a century: 36,525 days. (rule 3.12)
 const CENTURY: u64 = 3155760000;
 
 // The second number, or none for an illegal date or time of day. (rule 3.14)
@@ -26,7 +26,7 @@ pub enum TimeFound {
 }
 
 impl Time {
-    // (rule 3.14)
+    // The seconds since 2000-01-01 00:00:00. (rule 3.14)
     pub fn number(self) -> SecondNumber
         ensures { λ r. ⌜ secondNumber r ≡ numberOf self ⌝ }
     {
@@ -64,7 +64,7 @@ impl Time {
     }
 }
 
-// The time of a second number in the hour mode asked for, with a weekday, which plays no part. (rule 3.15)
+// The time of a second number in the hour mode asked for; the weekday is handed on. (rule 3.15)
 pub fn time_at(n: u64, m: HourMode, weekday: u8) -> TimeFound
     ensures { λ r. ⌜ timeFound r ≡ timeAtOf n m weekday ⌝ }
 {

@@ -1,15 +1,15 @@
 -- The laws of dates: the day number, the two conversions, and one day on. Assumes nothing.
-use mathlib.Core.Path.{_≡_, refl, sym, _∙_, ap, ap₂}
-use mathlib.Core.Bool.{Bool, true, false, cond, _&&_}
-use mathlib.Core.Option.{Option, none, some}
+use mathlib.Core.Path.{_≡_, sym, _∙_, ap, ap₂}
+use mathlib.Core.Bool.{true, false, cond, _&&_}
+use mathlib.Core.Option.{none, some}
 use Prim.Native.Nat.{ℕ, suc, _+_, _-_, _*_, _/_, _%_, _≤_, _<_}
 use native.Mathlib.Nat.{add-zero}
 use native.Mathlib.Omega.{arith}
 use lib.Dec.{ltb, eqb}
-use borrow.Author.Tests.{lt-ltb, ltb-true, ltb-false}
+use borrow.Author.Tests.{ltb-true, ltb-false}
 use Rattle.fields.specs.Digits.{valueOf, byteOf, legalOf, stepOf}
-use Rattle.fields.proofs.Answers.{Given, given, missing}
-use Rattle.fields.proofs.FieldLaws.{Held, Field, twelve, hundred, byte-held, held, legal-held, and-left, and-right, byte-value, value-byte, value-up, Stepped, up, over, stepped}
+use Rattle.fields.proofs.Answers.{given, missing}
+use Rattle.fields.proofs.FieldLaws.{Held, twelve, hundred, byte-held, held, legal-held, and-left, and-right, byte-value, value-byte, value-up, Stepped, up, over, stepped}
 use Rattle.dates.specs.Months.{lastDayOf, monthByteOf, yearByteOf, daysOf, firstDayOf}
 use Rattle.dates.specs.Dates.{legalDateOf, nextDateOf, monthNumberOf, dayOf, dayNumberOf, monthOf, dateIn, dateAtOf}
 use Rattle.dates.specs.declared.date.Date.{Date}

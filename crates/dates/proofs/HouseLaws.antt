@@ -1,14 +1,13 @@
 -- The house rule for dates: one day on and the reading can be had in either order. Assumes nothing.
-use mathlib.Core.Path.{_≡_, refl, sym, _∙_, ap, ap₂}
+use mathlib.Core.Path.{_≡_, refl, sym, _∙_, ap}
 use mathlib.Core.Bool.{Bool, true, false, cond, _&&_, true≢false}
 use Prim.Native.Nat.{ℕ}
-use native.Mathlib.Omega.{arith}
 use lib.Dec.{eqb}
 use borrow.Author.Tests.{eqb-true, ne-eqb}
-use Rattle.fields.specs.Digits.{legalOf, stepOf, valueOf}
+use Rattle.fields.specs.Digits.{legalOf, stepOf}
 use Rattle.fields.specs.House.{asField}
-use Rattle.fields.proofs.FieldLaws.{Held, Field, twelve, hundred, legal-held, and-false}
-use Rattle.fields.proofs.HouseLaws.{step-held, as-step, step-as, read-carried}
+use Rattle.fields.proofs.FieldLaws.{Field, twelve, hundred, legal-held}
+use Rattle.fields.proofs.HouseLaws.{as-step, step-as, read-carried}
 use Rattle.dates.specs.Months.{leapOf, lastDayOf}
 use Rattle.dates.specs.Dates.{nextDateOf}
 use Rattle.dates.specs.House.{asDate}

@@ -1,12 +1,11 @@
 -- The laws of the months: where each begins, and the one in which a day falls. Assumes nothing.
-use mathlib.Core.Path.{_≡_, refl, sym, _∙_, ap}
+use mathlib.Core.Path.{_≡_, refl, _∙_, ap}
 use mathlib.Core.Bool.{Bool, true, false, cond, _&&_}
-use Prim.Native.Nat.{ℕ, zero, suc, min, _+_, _-_, _*_, _/_, _%_, _≤_, _<_}
+use Prim.Native.Nat.{ℕ, zero, suc, min, _+_, _-_, _*_, _/_, _≤_, _<_}
 use native.Mathlib.Decide.{decLt, le-ind}
 use native.Mathlib.Omega.{arith}
-use lib.Dec.{T, leb, ltb, eqb, leb→le, ltb→lt}
+use lib.Dec.{leb, ltb, eqb, leb→le, ltb→lt}
 use borrow.Author.Tests.{lt-ltb, le-ltb}
-use Rattle.fields.specs.Digits.{valueOf}
 use Rattle.fields.proofs.Below.{both-left, both-right}
 use Rattle.fields.proofs.FieldLaws.{Field, value-up}
 use Rattle.dates.specs.Months.{leapOf, lastDayOf, monthByteOf, yearByteOf, daysOf, firstDayOf}

@@ -29,7 +29,7 @@ pub enum DateFound {
 }
 
 impl Date {
-    // (rule 3.11)
+    // Whether all three fields are legal, the day in its month. (rule 3.11)
     pub fn legal_date(self) -> bool
         ensures { λ r. ⌜ r ≡ legalDateOf self ⌝ }
     {
@@ -38,7 +38,7 @@ impl Date {
             & legal(self.year, 0x00, 0x99)
     }
 
-    // One day on. (rule 3.10)
+    // One day on: the day is judged by month and year as they are held. (rule 3.10)
     pub fn next(self) -> Date
         ensures { λ r. ⌜ r ≡ nextDateOf self ⌝ }
     {
@@ -53,7 +53,7 @@ impl Date {
         }
     }
 
-    // (rules 3.12 and 3.13)
+    // The days since 2000-01-01. (rules 3.12 and 3.13)
     pub fn number(self) -> DayNumber
         ensures { λ r. ⌜ dayNumber r ≡ dayNumberOf self ⌝ }
     {

@@ -1,16 +1,15 @@
 -- The laws of the hours: both columns of the table are one to one, and a step goes down its column. Assumes nothing.
 use mathlib.Core.Path.{_≡_, refl, sym, _∙_, ap}
-use mathlib.Core.Logic.{_⊎_, inl, inr}
 use mathlib.Core.Bool.{Bool, true, false, cond}
 use mathlib.Core.List.{List, [], _∷_}
 use Prim.Native.Nat.{ℕ, suc, _+_, _/_, _%_, _≤_, _<_}
 use native.Mathlib.Decide.{decLt}
 use native.Mathlib.Nat.{le-of-suc-le-suc, not-suc-le-zero}
 use native.Mathlib.Omega.{arith}
-use lib.Dec.{T, leb, ltb, eqb, ltb→lt, leb→le}
+use lib.Dec.{leb, ltb, eqb, ltb→lt, leb→le}
 use lib.ListN.{length, getD, List·getD-eq-default}
 use borrow.Author.Tests.{eqb-true, eq-eqb, lt-ltb, le-ltb, ne-eqb}
-use Rattle.fields.specs.Hours.{modeOf, firstHour, codes, placeOf, legalHourOf, hourNumberOf, hourByteOf, nextHourOf}
+use Rattle.fields.specs.Hours.{modeOf, firstHour, codes, placeOf, hourNumberOf, hourByteOf, nextHourOf}
 use Rattle.fields.specs.declared.hours.HourMode.{HourMode}
 use Rattle.fields.specs.declared.hours.HourMode.the-variants.{Twelve, TwentyFour}
 use Rattle.fields.proofs.Below.{agree, each}

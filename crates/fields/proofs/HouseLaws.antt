@@ -1,9 +1,9 @@
 -- The house rule: stepping an illegal field is stepping its last value, and a step ends legal. Assumes nothing.
 use mathlib.Core.Path.{_≡_, refl, sym, _∙_, ap}
 use mathlib.Core.Bool.{Bool, true, false, cond, _&&_, true≢false, false≢true}
-use Prim.Native.Nat.{ℕ, _+_, _≤_, _<_}
+use Prim.Native.Nat.{ℕ, _<_}
 use native.Mathlib.Omega.{arith}
-use lib.Dec.{ltb, eqb}
+use lib.Dec.{eqb}
 use borrow.Author.Tests.{lt-ltb, ne-eqb}
 use Rattle.fields.specs.Digits.{legalOf, stepOf}
 use Rattle.fields.specs.Hours.{modeOf, codes, firstHour, placeOf, legalHourOf, hourNumberOf, hourByteOf, nextHourOf}

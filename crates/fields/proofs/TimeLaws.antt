@@ -1,17 +1,17 @@
 -- The laws of the time of day: its second, the two conversions, and one second on. Assumes nothing.
-use mathlib.Core.Path.{_≡_, refl, sym, _∙_, ap}
+use mathlib.Core.Path.{_≡_, refl, _∙_, ap}
 use mathlib.Core.Bool.{Bool, true, false, cond, _&&_}
-use Prim.Native.Nat.{ℕ, _+_, _*_, _/_, _%_, _≤_, _<_}
+use Prim.Native.Nat.{ℕ, _+_, _*_, _/_, _%_, _<_}
 use native.Mathlib.Omega.{arith}
 use lib.Dec.{ltb, eqb}
-use borrow.Author.Tests.{lt-ltb, ltb-true, eq-eqb}
+use borrow.Author.Tests.{lt-ltb, ltb-true}
 use Rattle.fields.specs.Digits.{valueOf, byteOf, legalOf, stepOf}
-use Rattle.fields.specs.Hours.{modeOf, firstHour, hourNumberOf, hourByteOf, nextHourOf}
+use Rattle.fields.specs.Hours.{modeOf, hourNumberOf, hourByteOf, nextHourOf}
 use Rattle.fields.specs.Times.{legalTimeOf, secondOf, nextTimeOf, midnightOf, timeOfDayOf}
 use Rattle.fields.specs.declared.hours.HourMode.{HourMode}
 use Rattle.fields.specs.declared.times.TimeOfDay.{TimeOfDay}
-use Rattle.fields.proofs.FieldLaws.{Held, Field, sixty, byte-held, held, legal-held, and-left, and-right, byte-value, value-byte, Stepped, up, over, stepped}
-use Rattle.fields.proofs.HourLaws.{mode-byte, mode-next, mode-first, number-byte, byte-number, number-first, HourStepped, later, turns, hour-stepped}
+use Rattle.fields.proofs.FieldLaws.{Held, sixty, byte-held, held, legal-held, and-left, and-right, byte-value, value-byte, Stepped, up, over, stepped}
+use Rattle.fields.proofs.HourLaws.{mode-byte, mode-next, number-byte, byte-number, number-first, HourStepped, later, turns, hour-stepped}
 
 -- what it is to be legal, as facts
 pub record LegalTime (c : TimeOfDay) : Type 0 where
@@ -121,7 +121,7 @@ module _ (c : TimeOfDay) (l : LegalTime c) where
       turned (stepOf 0x00 0x59 (c .seconds)) (stepOf 0x00 0x59 (c .minutes)) (nextHourOf (c .hours))
       (stepped 0x00 0x59 (c .seconds) sixty) (stepped 0x00 0x59 (c .minutes) sixty) (hour-stepped (c .hours))
 
-pub kept-mode : (b : Bool) (x y : ℕ) → modeOf x ≡ modeOf y → modeOf (cond b x y) ≡ modeOf y
+kept-mode : (b : Bool) (x y : ℕ) → modeOf x ≡ modeOf y → modeOf (cond b x y) ≡ modeOf y
 kept-mode true x y e = e
 kept-mode false x y e = refl
 

@@ -35,7 +35,7 @@ pub fn step(x: u8, first: u8, last: u8) -> u8
     )
 }
 
-// The first of two bytes where b holds: a carry, without a branch.
+// x where b holds, else y: a field that a carry may reach is one such choice.
 pub fn pick(b: bool, x: u8, y: u8) -> u8
     ensures { λ r. ⌜ r ≡ cond b x y ⌝ }
 {

@@ -1,10 +1,10 @@
 // Hours in both modes. (rules 3.4 and 3.5)
-ghost use mathlib.Core.Path.{_≡_};
-ghost use Rattle.fields.specs.Hours.{modeOf, firstHour, codes, placeOf, hourNumberOf, hourByteOf, nextHourOf};
 use crate::digits::byte;
 use crate::digits::legal;
 use crate::digits::pick;
 use crate::digits::value;
+ghost use mathlib.Core.Path.{_≡_};
+ghost use Rattle.fields.specs.Hours.{modeOf, firstHour, codes, placeOf, hourNumberOf, hourByteOf, nextHourOf};
 
 pub enum HourMode {
     Twelve,
@@ -53,6 +53,7 @@ fn number12(h: u8) -> u8
     )
 }
 
+// In 24-hour mode the six low bits say the hour; bit 6 is never set.
 fn number24(h: u8) -> u8
     ensures { λ r. ⌜ r ≡ placeOf h (codes HourMode.TwentyFour) ⌝ }
 {
@@ -76,6 +77,7 @@ fn byte12(n: u8) -> u8
     pick(n < 24, byte((n % 12 + 11) % 12 + 1) + n / 12 % 2 * 32, 0x12)
 }
 
+// The remainder leaves every hour as it is and keeps the sum in a byte.
 fn byte24(n: u8) -> u8
     ensures { λ r. ⌜ r ≡ hourByteOf HourMode.TwentyFour n ⌝ }
 {

@@ -20,6 +20,7 @@ pub struct TimeOfDay {
 }
 
 impl TimeOfDay {
+    // Whether all three fields are legal. (rule 3.6)
     pub fn legal_time(self) -> bool
         ensures { λ r. ⌜ r ≡ legalTimeOf self ⌝ }
     {

@@ -1,5 +1,4 @@
 -- The table passes its test, so each entry is the first day of its month. Assumes nothing.
-use mathlib.Core.Path.{_∙_}
 use Rattle.dates.specs.Months.{leapOf, lastDayOf, daysOf}
 use Rattle.dates.proofs.MonthTests.{table-rule}
 use borrow.Author.Needs.{needs}

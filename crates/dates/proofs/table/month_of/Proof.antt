@@ -1,8 +1,7 @@
 -- The day falls into the guessed month or the one before it. Assumes nothing.
-use mathlib.Core.Path.{_∙_, sym, subst}
-use Prim.Native.Nat.{ℕ, _≤_, _<_, _-_}
+use mathlib.Core.Path.{sym}
+use Prim.Native.Nat.{_-_}
 use native.Mathlib.Omega.{arith}
-use Rattle.dates.specs.Months.{firstDayOf}
 use Rattle.dates.proofs.MonthLaws.{found, guess-month, guess-late, guess-before}
 use borrow.Author.Needs.{needs}
 use Rattle.dates.proofs.table.month_of.Statement.{statement}

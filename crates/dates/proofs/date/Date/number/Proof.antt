@@ -1,7 +1,7 @@
 -- A legal date has a month in the table, and its day number is the definition's. Assumes nothing.
 use mathlib.Core.Path.{_≡_, _∙_, sym, ap}
 use mathlib.Core.Option.{some}
-use Prim.Native.Nat.{_+_, _-_, _<_}
+use Prim.Native.Nat.{_+_, _-_}
 use native.Mathlib.Omega.{arith}
 use Rattle.dates.specs.Dates.{dayOf, dayNumberOf}
 use Rattle.dates.proofs.DateLaws.{LegalDate, legal-date, month-small, day-small}
