@@ -21,10 +21,11 @@ use Rattle.calendar.specs.declared.numbers.TimeFound.the-variants as tim
 unfoldable pub sinceOf : Time → ℕ
 sinceOf t = dayOf (dateOf t) * 86400 + secondOf (clockOf t)
 
--- the second number, or none
+-- the second number, or none (rule 3.14)
 unfoldable pub numberOf : Time → Option ℕ
 numberOf t = cond (legalDateOf (dateOf t) && legalTimeOf (clockOf t)) (some (sinceOf t)) none
 
+-- a time put together from its parts
 abbrev pub joined : TimeOfDay → ℕ → Date → Time
 joined c w d =
     record {
@@ -41,7 +42,7 @@ joined c w d =
 unfoldable pub timeIn : ℕ → HourMode → ℕ → Time
 timeIn n m w = joined (timeOfDayOf m (n % 86400)) w (dateIn (monthOf (n / 86400)) (n / 86400))
 
--- the time of a second number, or none
+-- the time of a second number, or none (rule 3.15)
 unfoldable pub timeAtOf : ℕ → HourMode → ℕ → Option Time
 timeAtOf n m w = cond (ltb n 3155760000) (some (timeIn n m w)) none
 
@@ -49,7 +50,7 @@ timeAtOf n m w = cond (ltb n 3155760000) (some (timeIn n m w)) none
 abbrev pub daysOnOf : Time → ℕ → Time
 daysOnOf t d = joined (clockOf t) (weekdayOnOf (t .weekday) d) (dateOf t)
 
--- n seconds after a time with second number k, or none
+-- n seconds after a time with second number k, or none (rule 3.16)
 abbrev pub laterFrom : Time → ℕ → Option ℕ → Option Time
 laterFrom t n none = none
 laterFrom t n (some k) =

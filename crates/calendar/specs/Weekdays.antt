@@ -3,6 +3,7 @@ use mathlib.Core.Bool.{Bool, cond}
 use Prim.Native.Nat.{ℕ, _+_, _%_}
 use lib.Dec.{ltb, eqb}
 
+-- 0 to 6
 abbrev pub legalWeekdayOf : ℕ → Bool
 legalWeekdayOf w = ltb w 7
 

@@ -11,7 +11,7 @@ use Rattle.fields.specs.Digits.{valueOf, byteOf, legalOf, stepOf}
 use Rattle.fields.proofs.Answers.{given, missing}
 use Rattle.fields.proofs.FieldLaws.{Held, twelve, hundred, byte-held, held, legal-held, and-left, and-right, byte-value, value-byte, value-up, Stepped, up, over, stepped}
 use Rattle.dates.specs.Months.{lastDayOf, monthByteOf, yearByteOf, daysOf, firstDayOf}
-use Rattle.dates.specs.Dates.{legalDateOf, nextDateOf, monthNumberOf, dayOf, dayNumberOf, monthOf, dateIn, dateAtOf}
+use Rattle.dates.specs.Dates.{legalDateOf, carriedDate, nextDateOf, monthNumberOf, dayOf, dayNumberOf, monthOf, dateIn, dateAtOf}
 use Rattle.dates.specs.declared.date.Date.{Date}
 use Rattle.dates.proofs.MonthLaws.{century, first-zero, first-suc, first-small, Falls, found, falls, day-field, days-small}
 
@@ -190,10 +190,6 @@ year-on y z m e f = omega arith
 abbrev first-of : ℕ → ℕ → Date
 first-of m y = record { day = 0x01; month = m; year = y }
 
--- the next date over its three stepped fields
-abbrev carried : Date → ℕ → ℕ → ℕ → Date
-carried d a m y = record { day = a; month = cond (eqb a 0x01) m (d .month); year = cond (eqb a 0x01 && eqb m 0x01) y (d .year) }
-
 module _ (d : Date) (l : LegalDate d) where
   -- the day after a month's last is the first day of the next month
   last-day-on : d .day ≡ lastDayOf (d .month) (d .year) → dayOf d + 1 ≡ firstDayOf (suc (monthNumberOf d))
@@ -234,7 +230,7 @@ module _ (d : Date) (l : LegalDate d) where
         day = add-zero (firstDayOf 0) ∙ first-zero ∙ sym (ap (λ (j : ℕ). j % 36525) z);
       }
 
-  turned : (a m y : ℕ) → Stepped 0x01 (lastDayOf (d .month) (d .year)) (d .day) a → Stepped 0x01 0x12 (d .month) m → Stepped 0x00 0x99 (d .year) y → NextDay d (carried d a m y)
+  turned : (a m y : ℕ) → Stepped 0x01 (lastDayOf (d .month) (d .year)) (d .day) a → Stepped 0x01 0x12 (d .month) m → Stepped 0x00 0x99 (d .year) y → NextDay d (carriedDate d a m y)
   turned a m y (up b c n v e) q r = rw e (same-month a n v)
   turned a m y (over b e) (up b₂ c₂ n₂ v₂ e₂) r =
       let w : LegalDate (first-of m (d .year)) = record { day = day-field m (d .year) .begin; month = n₂; year = l .year } in

@@ -11,26 +11,30 @@ use Rattle.dates.specs.declared.date.DayNumber.the-variants as day-numbe
 use Rattle.dates.specs.declared.date.DateFound.{DateFound}
 use Rattle.dates.specs.declared.date.DateFound.the-variants as date-found
 
+-- all three fields are legal, the day in its month (rule 3.11)
 unfoldable pub legalDateOf : Date → Bool
 legalDateOf d =
     legalOf 0x01 (lastDayOf (d .month) (d .year)) (d .day) && legalOf 0x01 0x12 (d .month) && legalOf 0x00 0x99 (d .year)
 
--- one day on: the day is judged by the month and the year before the step
-unfoldable pub nextDateOf : Date → Date
-nextDateOf d =
+-- the date d with its day come to a; a field at its first value carries, into the month m and the year y (rule 3.3)
+abbrev pub carriedDate : Date → ℕ → ℕ → ℕ → Date
+carriedDate d a m y =
     record {
-      day = stepOf 0x01 (lastDayOf (d .month) (d .year)) (d .day);
-      month = cond (eqb (stepOf 0x01 (lastDayOf (d .month) (d .year)) (d .day)) 0x01) (stepOf 0x01 0x12 (d .month)) (d .month);
-      year =
-          cond (eqb (stepOf 0x01 (lastDayOf (d .month) (d .year)) (d .day)) 0x01 && eqb (stepOf 0x01 0x12 (d .month)) 0x01)
-          (stepOf 0x00 0x99 (d .year)) (d .year);
+      day = a;
+      month = cond (eqb a 0x01) m (d .month);
+      year = cond (eqb a 0x01 && eqb m 0x01) y (d .year);
     }
 
--- the number of a date's month, 0 to 1,199
+-- one day on: the day is judged by the month and the year before the step (rule 3.10)
+unfoldable pub nextDateOf : Date → Date
+nextDateOf d =
+    carriedDate d (stepOf 0x01 (lastDayOf (d .month) (d .year)) (d .day)) (stepOf 0x01 0x12 (d .month)) (stepOf 0x00 0x99 (d .year))
+
+-- the number of a date's month, 0 to 1,199 (rule 3.13)
 abbrev pub monthNumberOf : Date → ℕ
 monthNumberOf d = valueOf (d .year) * 12 + (valueOf (d .month) - 1)
 
--- the days since 2000-01-01
+-- the days since 2000-01-01 (rules 3.12 and 3.13)
 unfoldable pub dayOf : Date → ℕ
 dayOf d = firstDayOf (monthNumberOf d) + (valueOf (d .day) - 1)
 

@@ -4,11 +4,11 @@ use Prim.Native.Nat.{ℕ, zero, suc, _+_, _/_, _%_}
 use lib.Dec.{eqb}
 use Rattle.fields.specs.Digits.{valueOf, byteOf, legalOf}
 
--- the number of the year is divisible by 4
+-- the number of the year is divisible by 4 (rule 3.8)
 unfoldable pub leapOf : ℕ → Bool
 leapOf year = legalOf 0x00 0x99 year && eqb (valueOf year % 4) 0
 
--- the last day of a month, as the field holds it
+-- the last day of a month, as the field holds it (rule 3.9)
 unfoldable pub lastDayOf : ℕ → ℕ → ℕ
 lastDayOf month year =
     cond (eqb month 0x02) (cond (leapOf year) 0x29 0x28)
@@ -28,7 +28,7 @@ yearByteOf k = byteOf (k / 12)
 unfoldable pub daysOf : ℕ → ℕ
 daysOf k = valueOf (lastDayOf (monthByteOf k) (yearByteOf k))
 
--- the day number on which month k begins: 0, then each the one before plus the days of the month before
+-- the day number on which month k begins: 0, then each the one before plus the days of the month before (rule 3.13)
 unfoldable pub firstDayOf : ℕ → ℕ
 firstDayOf zero = 0
 firstDayOf (suc k) = firstDayOf k + daysOf k

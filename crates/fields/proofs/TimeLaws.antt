@@ -7,7 +7,7 @@ use lib.Dec.{ltb, eqb}
 use borrow.Author.Tests.{lt-ltb, ltb-true}
 use Rattle.fields.specs.Digits.{valueOf, byteOf, legalOf, stepOf}
 use Rattle.fields.specs.Hours.{modeOf, hourNumberOf, hourByteOf, nextHourOf}
-use Rattle.fields.specs.Times.{legalTimeOf, secondOf, nextTimeOf, midnightOf, timeOfDayOf}
+use Rattle.fields.specs.Times.{legalTimeOf, secondOf, carriedTime, nextTimeOf, midnightOf, timeOfDayOf}
 use Rattle.fields.specs.declared.hours.HourMode.{HourMode}
 use Rattle.fields.specs.declared.times.TimeOfDay.{TimeOfDay}
 use Rattle.fields.proofs.FieldLaws.{Held, sixty, byte-held, held, legal-held, and-left, and-right, byte-value, value-byte, Stepped, up, over, stepped}
@@ -89,16 +89,11 @@ pub data Turned (c d : TimeOfDay) : Type 0 where
   on : midnightOf d ≡ false → secondOf d ≡ secondOf c + 1 → LegalTime d → Turned c d
   past : midnightOf d ≡ true → secondOf c ≡ 86399 → secondOf d ≡ 0 → LegalTime d → Turned c d
 
--- the next time of day over its three stepped fields
-abbrev carried : TimeOfDay → ℕ → ℕ → ℕ → TimeOfDay
-carried c s m h =
-    record { seconds = s; minutes = cond (eqb s 0x00) m (c .minutes); hours = cond (eqb s 0x00 && eqb m 0x00) h (c .hours) }
-
 minute-on : (h m n s : ℕ) → s ≡ 59 → n ≡ m + 1 → h * 3600 + n * 60 + 0 ≡ h * 3600 + m * 60 + s + 1
 minute-on h m n s e f = omega arith
 
 module _ (c : TimeOfDay) (l : LegalTime c) where
-  turned : (s m h : ℕ) → Stepped 0x00 0x59 (c .seconds) s → Stepped 0x00 0x59 (c .minutes) m → HourStepped (c .hours) h → Turned c (carried c s m h)
+  turned : (s m h : ℕ) → Stepped 0x00 0x59 (c .seconds) s → Stepped 0x00 0x59 (c .minutes) m → HourStepped (c .hours) h → Turned c (carriedTime c s m h)
   unfolding midnightOf secondOf
   turned s m h (up a b n v e) q r = rw e (on (simp e) (omega arith) (record { seconds = n; minutes = l .minutes; hours = l .hours }))
   turned s m h (over a e) (up a₂ b n v e₂) r =

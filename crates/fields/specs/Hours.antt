@@ -7,11 +7,11 @@ use lib.ListN.{getD}
 use Rattle.fields.specs.declared.hours.HourMode.{HourMode}
 use Rattle.fields.specs.declared.hours.HourMode.the-variants.{Twelve, TwentyFour}
 
--- bit 7 of a byte tells the mode
+-- bit 7 of a byte tells the mode (rule 3.4)
 abbrev pub modeOf : ℕ → HourMode
 modeOf h = cond (ltb h 0x80) Twelve TwentyFour
 
--- the 24 codes of a mode in their order
+-- the 24 codes of a mode in their order (rule 3.5)
 unfoldable pub codes : HourMode → List ℕ
 codes Twelve =
     0x12 ∷ 0x01 ∷ 0x02 ∷ 0x03 ∷ 0x04 ∷ 0x05 ∷ 0x06 ∷ 0x07 ∷ 0x08 ∷ 0x09 ∷ 0x10 ∷ 0x11
@@ -34,6 +34,7 @@ placeOf x (c ∷ cs) = cond (eqb x c) 0 (suc (placeOf x cs))
 unfoldable pub hourNumberOf : ℕ → ℕ
 hourNumberOf h = placeOf h (codes (modeOf h))
 
+-- a code of its mode
 abbrev pub legalHourOf : ℕ → Bool
 legalHourOf h = ltb (hourNumberOf h) 24
 

@@ -7,24 +7,29 @@ use Rattle.fields.specs.Hours.{modeOf, firstHour, legalHourOf, hourNumbe
 use Rattle.fields.specs.declared.hours.HourMode.{HourMode}
 use Rattle.fields.specs.declared.times.TimeOfDay.{TimeOfDay}
 
+-- all three fields are legal (rule 3.6)
 unfoldable pub legalTimeOf : TimeOfDay → Bool
 legalTimeOf c = legalOf 0x00 0x59 (c .seconds) && legalOf 0x00 0x59 (c .minutes) && legalHourOf (c .hours)
 
--- the whole seconds since midnight
+-- the whole seconds since midnight (rule 3.6)
 unfoldable pub secondOf : TimeOfDay → ℕ
 secondOf c = hourNumberOf (c .hours) * 3600 + valueOf (c .minutes) * 60 + valueOf (c .seconds)
 
--- one second on: a field that has come to its first value carries into the next
-unfoldable pub nextTimeOf : TimeOfDay → TimeOfDay
-nextTimeOf c =
+-- the time of day c with its seconds come to s; a field at its first value carries, into the minutes m and the hours h (rule 3.3)
+abbrev pub carriedTime : TimeOfDay → ℕ → ℕ → ℕ → TimeOfDay
+carriedTime c s m h =
     record {
-      seconds = stepOf 0x00 0x59 (c .seconds);
-      minutes = cond (eqb (stepOf 0x00 0x59 (c .seconds)) 0x00) (stepOf 0x00 0x59 (c .minutes)) (c .minutes);
-      hours =
-          cond (eqb (stepOf 0x00 0x59 (c .seconds)) 0x00 && eqb (stepOf 0x00 0x59 (c .minutes)) 0x00) (nextHourOf (c .hours)) (c .hours);
+      seconds = s;
+      minutes = cond (eqb s 0x00) m (c .minutes);
+      hours = cond (eqb s 0x00 && eqb m 0x00) h (c .hours);
     }
 
--- the first second of a day: what the time of day carries to
+-- one second on
+unfoldable pub nextTimeOf : TimeOfDay → TimeOfDay
+nextTimeOf c =
+    carriedTime c (stepOf 0x00 0x59 (c .seconds)) (stepOf 0x00 0x59 (c .minutes)) (nextHourOf (c .hours))
+
+-- the first second of a day: where it is reached the day carries (rule 3.5)
 unfoldable pub midnightOf : TimeOfDay → Bool
 midnightOf c = eqb (c .seconds) 0x00 && eqb (c .minutes) 0x00 && eqb (c .hours) (firstHour (modeOf (c .hours)))
 
