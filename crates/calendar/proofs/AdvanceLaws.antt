@@ -9,6 +9,8 @@ use borrow.Author.Tests.{eq-eqb, ne-eqb}
 use Rattle.fields.specs.declared.times.TimeOfDay.{TimeOfDay}
 use Rattle.fields.specs.Hours.{modeOf}
 use Rattle.fields.specs.Times.{secondOf, nextTimeOf, midnightOf}
+use Rattle.fields.proofs.Below.{counts}
+use Rattle.fields.proofs.Picked.{picked}
 use Rattle.fields.proofs.TimeLaws.{second-small, Turned, on, past, turns-over, next-mode}
 use Rattle.dates.specs.declared.date.Date.{Date}
 use Rattle.dates.specs.Dates.{dayOf, nextDateOf}
@@ -25,9 +27,6 @@ pub record Advanced (t u : Time) : Type 0 where
   pub moment : Moment u
   pub since : sinceOf u ≡ (sinceOf t + 1) % 3155760000
   pub weekday : u .weekday ≡ cond (eqb ((sinceOf t + 1) % 86400) 0) (nextWeekdayOf (t .weekday)) (t .weekday)
-
-counts : (n m : ℕ) → m ≡ n + 1 → m < 3155760000 → m ≡ (n + 1) % 3155760000
-counts n m e h = omega arith
 
 next-second : (d s r : ℕ) → r ≡ s + 1 → d * 86400 + r ≡ d * 86400 + s + 1
 next-second d s r e = omega arith
@@ -53,7 +52,7 @@ module _ (t : Time) (l : Moment t) where
       rw e
       (record {
         moment = k;
-        since = counts (sinceOf t) (sinceOf u) (next-second x y (secondOf c) s) (since-small u k);
+        since = counts 3155760000 (sinceOf t) (sinceOf u) (next-second x y (secondOf c) s) (since-small u k);
         weekday = rw (ne-eqb ((x * 86400 + y + 1) % 86400) 0 (λ q. omega arith)) refl;
       })
   by-turn c d (past e s z w) n =
@@ -90,11 +89,7 @@ advance-weekday t = refl
 -- a legal weekday stays legal, whatever the date is
 pub advance-weekday-legal : (t : Time) → t .weekday < 7 → advanceOf t .weekday < 7
 advance-weekday-legal t h =
-    rw (advance-weekday t) (picked-small (midnightOf (clockOf (advanceOf t))) (nextWeekdayOf (t .weekday)) (t .weekday) (next-small (t .weekday)) h)
-  where
-    picked-small : (b : Bool) (x y : ℕ) → x < 7 → y < 7 → cond b x y < 7
-    picked-small true x y p q = p
-    picked-small false x y p q = q
+    rw (advance-weekday t) (picked (λ (w : ℕ). w < 7) (midnightOf (clockOf (advanceOf t))) (next-small (t .weekday)) h)
 
 -- a legal weekday is one more modulo 7 exactly when the day turns
 pub weekday-turns : (t : Time) → Moment t → t .weekday < 7 → advanceOf t .weekday ≡ cond (eqb ((sinceOf t + 1) % 86400) 0) ((t .weekday + 1) % 7) (t .weekday)

@@ -1,33 +1,26 @@
 -- The bits that always read 0 stay 0 as time goes on, and no legal time has one set. Assumes nothing.
 use mathlib.Core.Path.{_≡_}
-use mathlib.Core.Bool.{Bool, true, false, cond, _&&_}
+use mathlib.Core.Bool.{_&&_}
 use Prim.Native.Nat.{ℕ, _/_, _%_, _<_}
 use native.Mathlib.Omega.{arith}
 use lib.Dec.{eqb}
 use Rattle.fields.specs.Digits.{stepOf}
-use Rattle.fields.specs.Hours.{nextHourOf}
 use Rattle.fields.specs.Times.{nextTimeOf, midnightOf}
 use Rattle.fields.proofs.FieldLaws.{sixty, twelve}
 use Rattle.fields.proofs.HouseLaws.{step-held}
+use Rattle.fields.proofs.Picked.{picked}
 use Rattle.fields.proofs.HourLaws.{next-hour-bit, legal-hour-bit}
 use Rattle.dates.specs.Months.{lastDayOf}
 use Rattle.dates.specs.Dates.{nextDateOf}
 use Rattle.dates.proofs.MonthLaws.{day-field, last-small}
-use Rattle.calendar.specs.Weekdays.{nextWeekdayOf}
-use Rattle.calendar.specs.Advance.{clockOf, dateOf, advanceOf}
+use Rattle.calendar.specs.Advance.{clockOf, advanceOf}
 use Rattle.calendar.specs.Fixed.{Clear}
 use Rattle.calendar.specs.declared.time.Time.{Time}
 use Rattle.calendar.proofs.WeekdayLaws.{next-small}
 use Rattle.calendar.proofs.MomentLaws.{Moment}
 
--- of two numbers below a bound the one that is picked is
-either : (b : Bool) (x y n : ℕ) → x < n → y < n → cond b x y < n
-either true x y n p q = p
-either false x y n p q = q
-
-either-bit : (b : Bool) (x y : ℕ) → x / 64 % 2 ≡ 0 → y / 64 % 2 ≡ 0 → cond b x y / 64 % 2 ≡ 0
-either-bit true x y p q = p
-either-bit false x y p q = q
+abbrev Below : ℕ → ℕ → Type 0
+Below n x = x < n
 
 module _ (t : Time) where
   pub stays-clear : Clear t → Clear (advanceOf t)
@@ -37,19 +30,18 @@ module _ (t : Time) where
       let s = stepOf 0x00 0x59 (t .seconds) in
       let m = stepOf 0x00 0x59 (t .minutes) in
       let a = stepOf 0x01 last (t .day) in
-      let k = stepOf 0x01 0x12 (t .month) in
       let turns = midnightOf (nextTimeOf (clockOf t)) in
-      let month = either (eqb a 0x01) k (t .month) 0x20 (omega (arith, step-held 0x01 0x12 (t .month) twelve .high)) (c .month) in
       record {
         seconds = omega (arith, step-held 0x00 0x59 (t .seconds) sixty .high);
-        minutes = either (eqb s 0x00) m (t .minutes) 0x80 (omega (arith, step-held 0x00 0x59 (t .minutes) sixty .high)) (c .minutes);
-        hours = either-bit (eqb s 0x00 && eqb m 0x00) (nextHourOf (t .hours)) (t .hours) (next-hour-bit (t .hours)) (c .hours);
-        weekday = either turns (nextWeekdayOf (t .weekday)) (t .weekday) 0x08 (omega (arith, next-small (t .weekday))) (c .weekday);
+        minutes = picked (Below 0x80) (eqb s 0x00) (omega (arith, step-held 0x00 0x59 (t .minutes) sixty .high)) (c .minutes);
+        hours = picked (λ (h : ℕ). h / 64 % 2 ≡ 0) (eqb s 0x00 && eqb m 0x00) (next-hour-bit (t .hours)) (c .hours);
+        weekday = picked (Below 0x08) turns (omega (arith, next-small (t .weekday))) (c .weekday);
         day =
-            either turns a (t .day) 0x40
-            (omega (arith, step-held 0x01 last (t .day) (day-field (t .month) (t .year)) .high, last-small (t .month) (t .year)))
-            (c .day);
-        month = either turns (nextDateOf (dateOf t) .month) (t .month) 0x20 month (c .month);
+            picked (Below 0x40) turns
+            (omega (arith, step-held 0x01 last (t .day) (day-field (t .month) (t .year)) .high, last-small (t .month) (t .year))) (c .day);
+        month =
+            picked (Below 0x20) turns
+            (picked (Below 0x20) (eqb a 0x01) (omega (arith, step-held 0x01 0x12 (t .month) twelve .high)) (c .month)) (c .month);
       }
 
   pub legal-clear : Moment t → t .weekday < 7 → Clear t

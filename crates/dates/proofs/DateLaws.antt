@@ -1,14 +1,15 @@
 -- The laws of dates: the day number, the two conversions, and one day on. Assumes nothing.
 use mathlib.Core.Path.{_≡_, sym, _∙_, ap, ap₂}
-use mathlib.Core.Bool.{true, false, cond, _&&_}
+use mathlib.Core.Bool.{true, false, _&&_}
 use mathlib.Core.Option.{none, some}
 use Prim.Native.Nat.{ℕ, suc, _+_, _-_, _*_, _/_, _%_, _≤_, _<_}
 use native.Mathlib.Nat.{add-zero}
 use native.Mathlib.Omega.{arith}
-use lib.Dec.{ltb, eqb}
+use lib.Dec.{ltb}
 use borrow.Author.Tests.{ltb-true, ltb-false}
 use Rattle.fields.specs.Digits.{valueOf, byteOf, legalOf, stepOf}
 use Rattle.fields.proofs.Answers.{given, missing}
+use Rattle.fields.proofs.Below.{counts}
 use Rattle.fields.proofs.FieldLaws.{Held, twelve, hundred, byte-held, held, legal-held, and-left, and-right, byte-value, value-byte, value-up, Stepped, up, over, stepped}
 use Rattle.dates.specs.Months.{lastDayOf, monthByteOf, yearByteOf, daysOf, firstDayOf}
 use Rattle.dates.specs.Dates.{legalDateOf, carriedDate, nextDateOf, monthNumberOf, dayOf, dayNumberOf, monthOf, dateIn, dateAtOf}
@@ -175,9 +176,6 @@ pub record NextDay (d e : Date) : Type 0 where
   pub legal : LegalDate e
   pub day : dayOf e ≡ (dayOf d + 1) % 36525
 
-counts : (n m : ℕ) → m ≡ n + 1 → m < 36525 → m ≡ (n + 1) % 36525
-counts n m e h = omega arith
-
 day-on : (a v w : ℕ) → 1 ≤ v → w ≡ v + 1 → a + (w - 1) ≡ a + (v - 1) + 1
 day-on a v w p e = omega arith
 
@@ -208,7 +206,7 @@ module _ (d : Date) (l : LegalDate d) where
     first-on f =
         record {
           legal = w;
-          day = counts (dayOf d) (dayOf (first-of m y)) (first-number ∙ sym (last-day-on f)) (day-small (first-of m y) w);
+          day = counts 36525 (dayOf d) (dayOf (first-of m y)) (first-number ∙ sym (last-day-on f)) (day-small (first-of m y) w);
         }
 
   same-month : (a : ℕ) → Held 0x01 (lastDayOf (d .month) (d .year)) a → valueOf a ≡ valueOf (d .day) + 1 → NextDay d (record { day = a; month = d .month; year = d .year })
@@ -218,7 +216,7 @@ module _ (d : Date) (l : LegalDate d) where
       let w : LegalDate e = record { day = n; month = l .month; year = l .year } in
       record {
         legal = w;
-        day = counts (dayOf d) (dayOf e) (day-on (firstDayOf (monthNumberOf d)) (valueOf (d .day)) (valueOf a) (day-low d l) v) (day-small e w);
+        day = counts 36525 (dayOf d) (dayOf e) (day-on (firstDayOf (monthNumberOf d)) (valueOf (d .day)) (valueOf a) (day-low d l) v) (day-small e w);
       }
 
   century-on : d .day ≡ lastDayOf (d .month) (d .year) → monthNumberOf d ≡ 1199 → NextDay d (first-of 0x01 0x00)

@@ -1,6 +1,6 @@
 -- The laws of the months: where each begins, and the one in which a day falls. Assumes nothing.
 use mathlib.Core.Path.{_≡_, refl, _∙_, ap}
-use mathlib.Core.Bool.{Bool, true, false, cond, _&&_}
+use mathlib.Core.Bool.{Bool, _&&_}
 use Prim.Native.Nat.{ℕ, zero, suc, min, _+_, _-_, _*_, _/_, _≤_, _<_}
 use native.Mathlib.Decide.{decLt, le-ind}
 use native.Mathlib.Omega.{arith}
@@ -8,6 +8,7 @@ use lib.Dec.{leb, ltb, eqb, leb→le, ltb→lt}
 use borrow.Author.Tests.{lt-ltb, le-ltb}
 use Rattle.fields.proofs.Below.{both-left, both-right}
 use Rattle.fields.proofs.FieldLaws.{Field, value-up}
+use Rattle.fields.proofs.Picked.{picked}
 use Rattle.dates.specs.Months.{leapOf, lastDayOf, monthByteOf, yearByteOf, daysOf, firstDayOf}
 use Rattle.dates.specs.Dates.{monthFrom, monthOf}
 use Rattle.dates.proofs.MonthTests.{every-month}
@@ -133,15 +134,12 @@ data Ends : ℕ → Type 0 where
   d30 : Ends 0x30
   d31 : Ends 0x31
 
-one-of : (b : Bool) {x y : ℕ} → Ends x → Ends y → Ends (cond b x y)
-one-of true p q = p
-one-of false p q = q
-
 ends : (month year : ℕ) → Ends (lastDayOf month year)
 unfolding lastDayOf
 ends month year =
-    one-of (eqb month 0x02) (one-of (leapOf year) d29 d28)
-    (one-of (eqb month 0x04) d30 (one-of (eqb month 0x06) d30 (one-of (eqb month 0x09) d30 (one-of (eqb month 0x11) d30 d31))))
+    picked Ends (eqb month 0x02) (picked Ends (leapOf year) d29 d28)
+    (picked Ends (eqb month 0x04) d30
+    (picked Ends (eqb month 0x06) d30 (picked Ends (eqb month 0x09) d30 (picked Ends (eqb month 0x11) d30 d31))))
 
 ends-field : {x : ℕ} → Ends x → Field 0x01 x
 ends-field d28 = omega arith

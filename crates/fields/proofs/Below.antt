@@ -2,8 +2,8 @@
 use mathlib.Core.Path.{_≡_, subst, sym}
 use mathlib.Core.Logic.{⊎-elim}
 use mathlib.Core.Bool.{Bool, true, false, _&&_}
-use Prim.Native.Nat.{ℕ, zero, suc, _<_}
-use native.Mathlib.Nat.{eq-or-lt-of-le, le-of-suc-le-suc, not-suc-le-zero}
+use Prim.Native.Nat.{ℕ, zero, suc, _+_, _%_, _<_}
+use native.Mathlib.Nat.{eq-or-lt-of-le, le-of-suc-le-suc, mod-eq-of-lt, not-suc-le-zero}
 use lib.Dec.{T, eqb, eqb→eq}
 
 pub both-left : (a b : Bool) → T (a && b) → T a
@@ -30,3 +30,7 @@ each f (suc n) t x h =
 -- two functions that agree at every number below n
 pub agree : (f g : ℕ → ℕ) (n : ℕ) → T (all (λ (x : ℕ). eqb (f x) (g x)) n) → (x : ℕ) → x < n → f x ≡ g x
 agree f g n t x h = eqb→eq (f x) (g x) (each (λ (k : ℕ). eqb (f k) (g k)) n t x h)
+
+-- a next number that is still below c is the next modulo c
+pub counts : (c n m : ℕ) → m ≡ n + 1 → m < c → m ≡ (n + 1) % c
+counts c n m e h = rw (← e) (sym (mod-eq-of-lt h))

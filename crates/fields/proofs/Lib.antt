@@ -4,6 +4,7 @@ pub mod FieldLaws
 mod HourCodes
 pub mod HourLaws
 pub mod HouseLaws
+pub mod Picked
 pub mod Settles
 mod Settled
 pub mod TimeLaws

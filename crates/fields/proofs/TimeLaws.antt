@@ -1,6 +1,6 @@
 -- The laws of the time of day: its second, the two conversions, and one second on. Assumes nothing.
 use mathlib.Core.Path.{_≡_, refl, _∙_, ap}
-use mathlib.Core.Bool.{Bool, true, false, cond, _&&_}
+use mathlib.Core.Bool.{true, false, _&&_}
 use Prim.Native.Nat.{ℕ, _+_, _*_, _/_, _%_, _<_}
 use native.Mathlib.Omega.{arith}
 use lib.Dec.{ltb, eqb}
@@ -11,6 +11,7 @@ use Rattle.fields.specs.Times.{legalTimeOf, secondOf, carriedTime, nextT
 use Rattle.fields.specs.declared.hours.HourMode.{HourMode}
 use Rattle.fields.specs.declared.times.TimeOfDay.{TimeOfDay}
 use Rattle.fields.proofs.FieldLaws.{Held, sixty, byte-held, held, legal-held, and-left, and-right, byte-value, value-byte, Stepped, up, over, stepped}
+use Rattle.fields.proofs.Picked.{picked}
 use Rattle.fields.proofs.HourLaws.{mode-byte, mode-next, number-byte, byte-number, number-first, HourStepped, later, turns, hour-stepped}
 
 -- what it is to be legal, as facts
@@ -116,13 +117,9 @@ module _ (c : TimeOfDay) (l : LegalTime c) where
       turned (stepOf 0x00 0x59 (c .seconds)) (stepOf 0x00 0x59 (c .minutes)) (nextHourOf (c .hours))
       (stepped 0x00 0x59 (c .seconds) sixty) (stepped 0x00 0x59 (c .minutes) sixty) (hour-stepped (c .hours))
 
-kept-mode : (b : Bool) (x y : ℕ) → modeOf x ≡ modeOf y → modeOf (cond b x y) ≡ modeOf y
-kept-mode true x y e = e
-kept-mode false x y e = refl
-
 -- the hour mode stays, whatever the bytes are
 pub next-mode : (c : TimeOfDay) → modeOf (nextTimeOf c .hours) ≡ modeOf (c .hours)
 unfolding nextTimeOf
 next-mode c =
-    kept-mode (eqb (stepOf 0x00 0x59 (c .seconds)) 0x00 && eqb (stepOf 0x00 0x59 (c .minutes)) 0x00) (nextHourOf (c .hours)) (c .hours)
-    (mode-next (c .hours))
+    picked (λ (h : ℕ). modeOf h ≡ modeOf (c .hours)) (eqb (stepOf 0x00 0x59 (c .seconds)) 0x00 && eqb (stepOf 0x00 0x59 (c .minutes)) 0x00)
+    (mode-next (c .hours)) refl
