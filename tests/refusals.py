@@ -9,8 +9,8 @@ import re
 import sys
 from pathlib import Path
 
-# How the prover says that a proof names a place which the code does not have any more.
-MISFITS = ("that can be named from here", "has no field")
+# How the prover says that a proof names a place or a need which the code does not have any more.
+MISFITS = ("that can be named from here", "has no field", "expected type `tie.Need-")
 
 
 def comment(text, name):
@@ -20,9 +20,10 @@ def comment(text, name):
 
 def first_error(log):
     """The first error's file below the crate, and its whole message."""
-    lines = log.read_text(errors="replace").splitlines()
+    lines = log.read_text(encoding="utf-8", errors="replace").splitlines()
+    error = re.compile(r".*/%s/(\S+?):\d+:\d+: error: (.*)" % re.escape(log.parent.as_posix()))
     for number, line in enumerate(lines):
-        found = re.match(re.escape(str(log.parent.resolve())) + r"/(\S+?):\d+:\d+: error: (.*)", line)
+        found = error.match(line)
         if found:
             rest = []
             for more in lines[number + 1:]:
@@ -35,7 +36,7 @@ def first_error(log):
 
 def fault(edit):
     """What is wrong with one edit, or None."""
-    text = edit.read_text()
+    text = edit.read_text(encoding="utf-8")
     about = comment(text, "Refused in")
     if not comment(text, "Tells"):
         return "it gives no input that tells"

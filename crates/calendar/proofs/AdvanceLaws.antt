@@ -28,6 +28,7 @@ pub record Advanced (t u : Time) : Type 0 where
   pub since : sinceOf u ≡ (sinceOf t + 1) % 3155760000
   pub weekday : u .weekday ≡ cond (eqb ((sinceOf t + 1) % 86400) 0) (nextWeekdayOf (t .weekday)) (t .weekday)
 
+-- a day d and its second s, one second on, as plain numbers
 next-second : (d s r : ℕ) → r ≡ s + 1 → d * 86400 + r ≡ d * 86400 + s + 1
 next-second d s r e = omega arith
 

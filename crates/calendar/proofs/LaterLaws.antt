@@ -8,6 +8,7 @@ use native.Mathlib.Decide.{ℕ-discrete}
 use native.Mathlib.Omega.{arith}
 use lib.Dec.{eqb}
 use borrow.Author.Tests.{eq-eqb, ne-eqb}
+use Rattle.fields.proofs.Answers.{some-none}
 use Rattle.fields.specs.Hours.{modeOf}
 use Rattle.calendar.specs.Weekdays.{nextWeekdayOf, weekdayOnOf}
 use Rattle.calendar.specs.Advance.{advanceOf}
@@ -81,10 +82,7 @@ module _ (t : Time) (l : Moment t) where
 -- none exactly where the time has no second number
 later-by : (t : Time) (n : ℕ) (k : Option ℕ) → (laterFrom t n k ≡ none) ↔ (k ≡ none)
 later-by t n none = (λ e. refl, λ e. refl)
-later-by t n (some k) = (
-  λ e. absurd (let z : _≡_ {A = ℕ} 0 1 = cc in omega arith),
-  λ e. absurd (let z : _≡_ {A = ℕ} 0 1 = cc in omega arith),
-)
+later-by t n (some k) = (λ e. absurd (some-none _ e), λ e. absurd (some-none k e))
 
 pub later-none : (t : Time) (n : ℕ) → (laterOf t n ≡ none) ↔ (numberOf t ≡ none)
 unfolding laterOf

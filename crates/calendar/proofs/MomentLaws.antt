@@ -76,7 +76,7 @@ module _ (t : Time) (l : Moment t) where
       ap₂ (λ x y. joined x (t .weekday) y) c d
 
 module _ (n : ℕ) (m : HourMode) (w : ℕ) where
-  pub time-mode : modeOf (timeIn n m w .hours) ≡ m
+  time-mode : modeOf (timeIn n m w .hours) ≡ m
   unfolding timeIn
   time-mode = time-of-mode m (n % 86400)
 
@@ -128,6 +128,14 @@ pub time-number : (n : ℕ) (m : HourMode) (w : ℕ) (t : Time) → timeAtOf n m
 time-number n m w t e =
     let h = time-small n m w t e in
     ap numberOf (sym (time-is n m w t e)) ∙ moment-number (timeIn n m w) (time-moment n m w h) ∙ ap some (since-back n m w h)
+
+-- in the hour mode asked for, and with the weekday that was handed in
+pub time-in-mode : (n : ℕ) (m : HourMode) (w : ℕ) (t : Time) → timeAtOf n m w ≡ some t → modeOf (t .hours) ≡ m
+time-in-mode n m w t e = ap (λ (u : Time). modeOf (u .hours)) (sym (time-is n m w t e)) ∙ time-mode n m w
+
+pub time-weekday : (n : ℕ) (m : HourMode) (w : ℕ) (t : Time) → timeAtOf n m w ≡ some t → t .weekday ≡ w
+unfolding timeIn
+time-weekday n m w t e = ap (λ (u : Time). u .weekday) (sym (time-is n m w t e))
 
 -- none exactly for an illegal date or time of day
 pub number-none : (t : Time) → (numberOf t ≡ none) ↔ (legalDateOf (dateOf t) && legalTimeOf (clockOf t) ≡ false)

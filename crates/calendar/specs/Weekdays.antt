@@ -1,4 +1,4 @@
--- The weekday. (rule 3.7)
+-- The weekday. (rules 3.7 and 3.16)
 use mathlib.Core.Bool.{Bool, cond}
 use Prim.Native.Nat.{ℕ, _+_, _%_}
 use lib.Dec.{ltb, eqb}
@@ -15,6 +15,6 @@ nextWeekdayOf w = cond (ltb w 6) (w + 1) 0
 abbrev pub asWeekday : ℕ → ℕ
 asWeekday w = cond (ltb w 7) w 6
 
--- d days on; with none passed it stays as held
+-- d days on; with none passed it stays as held (rule 3.16)
 unfoldable pub weekdayOnOf : ℕ → ℕ → ℕ
 weekdayOnOf w d = cond (eqb d 0) w ((asWeekday w + d) % 7)

@@ -31,6 +31,7 @@ record Split (y m k : ℕ) : Type 0 where
 split : (y m : ℕ) → y < 100 → 1 ≤ m → m ≤ 12 → Split y m (y * 12 + (m - 1))
 split y m a b c = omega arith
 
+-- sums of a first day and a day of the month, as plain numbers
 within : (a v n : ℕ) → 1 ≤ v → v ≤ n → (a ≤ a + (v - 1)) × (a + (v - 1) < a + n)
 within a v n p q = omega arith
 
@@ -118,10 +119,6 @@ module _ (d : Date) (l : LegalDate d) where
 
 -- exactly the legal dates have a day number
 module _ (d : Date) where
-  pub legal-number : LegalDate d → dayNumberOf d ≡ some (dayOf d)
-  unfolding dayNumberOf
-  legal-number l = simp (date-legal d l)
-
   pub number-legal : (n : ℕ) → dayNumberOf d ≡ some n → LegalDate d
   unfolding dayNumberOf
   number-legal n e = legal-date d (given (legalDateOf d) (dayOf d) n e .holds)
@@ -176,6 +173,7 @@ pub record NextDay (d e : Date) : Type 0 where
   pub legal : LegalDate e
   pub day : dayOf e ≡ (dayOf d + 1) % 36525
 
+-- the next day, month and year in the numbers, as plain numbers
 day-on : (a v w : ℕ) → 1 ≤ v → w ≡ v + 1 → a + (w - 1) ≡ a + (v - 1) + 1
 day-on a v w p e = omega arith
 

@@ -7,7 +7,7 @@ use borrow.Author.Tests.{eqb-true, ne-eqb}
 use Rattle.fields.specs.Digits.{legalOf, stepOf}
 use Rattle.fields.specs.House.{asField}
 use Rattle.fields.proofs.FieldLaws.{Field, twelve, hundred, legal-held}
-use Rattle.fields.proofs.HouseLaws.{as-step, step-as, read-carried}
+use Rattle.fields.proofs.HouseLaws.{as-step, step-as, read-carried, kept-past}
 use Rattle.dates.specs.Months.{leapOf, lastDayOf}
 use Rattle.dates.specs.Dates.{nextDateOf}
 use Rattle.dates.specs.House.{asDate}
@@ -62,6 +62,7 @@ day-as : (a m y m₂ y₂ : ℕ) (b : Bool) (c : Bool) → eqb a 0x01 ≡ b → 
 day-as a m y m₂ y₂ true c e h = rw (eqb-true a 0x01 e) (first-as (lastDayOf m₂ (cond c y₂ y)) (day-field m₂ (cond c y₂ y)))
 day-as a m y m₂ y₂ false c e h = h
 
+-- one day on and the reading can be had in either order
 pub next-as : (d : Date) → nextDateOf (asDate d) ≡ asDate (nextDateOf d)
 unfolding nextDateOf asDate
 next-as d =
@@ -78,3 +79,14 @@ next-as d =
       read-carried (asField 0x01 0x12) (eqb a 0x01) m (d .month) (as-step 0x01 0x12 (d .month) twelve),
       read-carried (asField 0x00 0x99) (eqb a 0x01 && eqb m 0x01) y (d .year) (as-step 0x00 0x99 (d .year) hundred),
     )
+
+-- what no carry reaches stays as held
+pub next-kept : (d : Date) → eqb (nextDateOf d .day) 0x01 ≡ false → nextDateOf d ≡ record { day = nextDateOf d .day; month = d .month; year = d .year }
+unfolding nextDateOf
+next-kept d e = simp e
+
+pub year-kept : (d : Date) → eqb (nextDateOf d .month) 0x01 ≡ false → nextDateOf d .year ≡ d .year
+unfolding nextDateOf
+year-kept d e =
+    kept-past (eqb (stepOf 0x01 (lastDayOf (d .month) (d .year)) (d .day)) 0x01) (stepOf 0x01 0x12 (d .month)) (d .month) 0x01
+    (stepOf 0x00 0x99 (d .year)) (d .year) e

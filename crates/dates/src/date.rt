@@ -42,6 +42,7 @@ impl Date {
     pub fn next(self) -> Date
         ensures { λ r. ⌜ r ≡ nextDateOf self ⌝ }
     {
+        // Held before month and year move, which would judge it otherwise.
         let held = self.day;
         let d = step(held, 0x01, last_day(self.month, self.year));
         let m = step(self.month, 0x01, 0x12);

@@ -6,7 +6,7 @@ ghost use mathlib.Core.Path.{_≡_};
 ghost use Rattle.dates.specs.Months.{leapOf, lastDayOf};
 
 // The number of the year counts, not its byte; an illegal year is not leap. (rule 3.8)
-pub fn leap(year: u8) -> bool
+pub(crate) fn leap(year: u8) -> bool
     ensures { λ r. ⌜ r ≡ leapOf year ⌝ }
 {
     let number = value(year);
@@ -14,7 +14,7 @@ pub fn leap(year: u8) -> bool
 }
 
 // The last day of a month, as the field holds it; an illegal month has 31 days. (rule 3.9)
-pub fn last_day(month: u8, year: u8) -> u8
+pub(crate) fn last_day(month: u8, year: u8) -> u8
     ensures { λ r. ⌜ r ≡ lastDayOf month year ⌝ }
 {
     match month {

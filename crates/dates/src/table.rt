@@ -1208,7 +1208,7 @@ const FIRST_DAYS: [u16; 1200] = [
 ];
 
 // The day number on which month k begins.
-pub fn first_day(k: usize) -> u64
+pub(crate) fn first_day(k: usize) -> u64
     requires { ⌜ k < 1200 ⌝ }
     ensures { λ r. ⌜ r ≡ firstDayOf k ⌝ }
 {
@@ -1222,7 +1222,7 @@ fn wide(n: u16) -> u64
 }
 
 // The month in which day n of the century falls: the guess, or the month before it.
-pub fn month_of(n: u64) -> usize
+pub(crate) fn month_of(n: u64) -> usize
     requires { ⌜ n < 36525 ⌝ }
     ensures { λ r. ⌜ r ≡ monthOf n ⌝ }
 {

@@ -14,7 +14,7 @@ module _ {A : Type 0} where
   some-one : (x y : A) → some x ≡ some y → x ≡ y
   some-one x y e = cc
 
-  some-none : (x : A) → some x ≡ none → ⊥
+  pub some-none : (x : A) → some x ≡ none → ⊥
   some-none x e = let z : _≡_ {A = ℕ} 0 1 = cc in omega arith
 
   pub given : (b : Bool) (x y : A) → cond b (some x) none ≡ some y → Given b x y

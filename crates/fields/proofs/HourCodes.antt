@@ -1,4 +1,4 @@
--- The arithmetic of the hour codes gives the sheet's table, by a test over every byte. Assumes nothing.
+-- The arithmetic of the hours gives the two rows of codes, by a test over every byte. Assumes nothing.
 use mathlib.Core.Path.{_≡_, refl}
 use mathlib.Core.Bool.{Bool, true, false, cond, _&&_}
 use mathlib.Core.List.{List, [], _∷_}

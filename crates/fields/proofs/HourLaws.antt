@@ -1,4 +1,4 @@
--- The laws of the hours: both columns of the table are one to one, and a step goes down its column. Assumes nothing.
+-- The laws of the hours: both rows of codes are one to one, and a step goes on along its row. Assumes nothing.
 use mathlib.Core.Path.{_≡_, refl, sym, _∙_, ap}
 use mathlib.Core.Bool.{Bool, true, false, cond}
 use mathlib.Core.List.{List, [], _∷_}
@@ -106,14 +106,13 @@ byte-bit TwentyFour = agree (λ (n : ℕ). hourByteOf TwentyFour n / 64 % 2) (λ
 pub legal-hour-bit : (h : ℕ) → hourNumberOf h < 24 → h / 64 % 2 ≡ 0
 legal-hour-bit h l = ap (λ (x : ℕ). x / 64 % 2) (sym (byte-number h l)) ∙ byte-bit (modeOf h) (hourNumberOf h) l
 
-first-bit : (m : HourMode) → firstHour m / 64 % 2 ≡ 0
-first-bit Twelve = refl
-first-bit TwentyFour = refl
+-- and every step ends at a code
+hour-ends : (h s : ℕ) → HourStepped h s → hourNumberOf s < 24
+hour-ends h s (later b n t) = omega arith
+hour-ends h s (turns b n t) = rw n (omega (arith, number-first (modeOf h)))
+
+pub next-legal : (h : ℕ) → hourNumberOf (nextHourOf h) < 24
+next-legal h = hour-ends h (nextHourOf h) (hour-stepped h)
 
 pub next-hour-bit : (h : ℕ) → nextHourOf h / 64 % 2 ≡ 0
-unfolding nextHourOf
-next-hour-bit h =
-    elim (decLt (hourNumberOf h + 1) 24) [
-      | yes l ↦ byte-bit (modeOf h) (hourNumberOf h + 1) l
-      | no l ↦ rw (past (modeOf h) (hourNumberOf h + 1) (omega arith)) (first-bit (modeOf h))
-    ]
+next-hour-bit h = legal-hour-bit (nextHourOf h) (next-legal h)

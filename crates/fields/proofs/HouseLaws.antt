@@ -1,7 +1,7 @@
 -- The house rule: stepping an illegal field is stepping its last value, and a step ends legal. Assumes nothing.
 use mathlib.Core.Path.{_≡_, refl, sym, _∙_, ap}
 use mathlib.Core.Bool.{Bool, true, false, cond, _&&_, true≢false, false≢true}
-use Prim.Native.Nat.{ℕ, _<_}
+use Prim.Native.Nat.{ℕ}
 use native.Mathlib.Omega.{arith}
 use lib.Dec.{eqb}
 use borrow.Author.Tests.{lt-ltb, ne-eqb}
@@ -13,7 +13,7 @@ use Rattle.fields.specs.declared.hours.HourMode.{HourMode}
 use Rattle.fields.specs.declared.hours.HourMode.the-variants.{Twelve, TwentyFour}
 use Rattle.fields.specs.declared.times.TimeOfDay.{TimeOfDay}
 use Rattle.fields.proofs.FieldLaws.{Held, Field, sixty, held, legal-held, Stepped, up, over, stepped}
-use Rattle.fields.proofs.HourLaws.{HourStepped, later, turns, hour-stepped, number-first}
+use Rattle.fields.proofs.HourLaws.{HourStepped, later, turns, hour-stepped, number-first, next-legal}
 
 module _ (first last x : ℕ) (f : Field first last) where
   ends-held : (s : ℕ) → Stepped first last x s → Held first last s
@@ -53,13 +53,9 @@ module _ (first last x : ℕ) (f : Field first last) where
 
 -- the same of hours
 module _ (h : ℕ) where
-  hour-ends : (s : ℕ) → HourStepped h s → hourNumberOf s < 24
-  hour-ends s (later b n t) = omega arith
-  hour-ends s (turns b n t) = rw n (omega (arith, number-first (modeOf h)))
-
   pub as-next-hour : asHour (nextHourOf h) ≡ nextHourOf h
   unfolding asHour
-  as-next-hour = simp (lt-ltb _ _ (hour-ends (nextHourOf h) (hour-stepped h)))
+  as-next-hour = simp (lt-ltb _ _ (next-legal h))
 
 next-last : (m : HourMode) → nextHourOf (lastHour m) ≡ firstHour m
 unfolding nextHourOf hourNumberOf hourByteOf codes placeOf
@@ -88,13 +84,15 @@ pub next-kept : (c : TimeOfDay) → eqb (nextTimeOf c .seconds) 0x00 ≡ false �
 unfolding nextTimeOf
 next-kept c e = simp e
 
+-- a field past one that has not come to its first value
+pub kept-past : (b : Bool) (m n first h k : ℕ) → eqb (cond b m n) first ≡ false → cond (b && eqb m first) h k ≡ k
+kept-past true m n first h k e = simp e
+kept-past false m n first h k e = refl
+
 pub hour-kept : (c : TimeOfDay) → eqb (nextTimeOf c .minutes) 0x00 ≡ false → nextTimeOf c .hours ≡ c .hours
 unfolding nextTimeOf
-hour-kept c e = kept (eqb (stepOf 0x00 0x59 (c .seconds)) 0x00) (stepOf 0x00 0x59 (c .minutes)) (c .minutes) (nextHourOf (c .hours)) (c .hours) e
-  where
-    kept : (b : Bool) (m n h k : ℕ) → eqb (cond b m n) 0x00 ≡ false → cond (b && eqb m 0x00) h k ≡ k
-    kept true m n h k e = simp e
-    kept false m n h k e = refl
+hour-kept c e =
+    kept-past (eqb (stepOf 0x00 0x59 (c .seconds)) 0x00) (stepOf 0x00 0x59 (c .minutes)) (c .minutes) 0x00 (nextHourOf (c .hours)) (c .hours) e
 
 -- a reading of what a carry may have changed
 pub read-carried : (read : ℕ → ℕ) (b : Bool) (x y : ℕ) → read x ≡ x → cond b x (read y) ≡ read (cond b x y)

@@ -15,6 +15,10 @@ byteOf n = n / 10 % 10 * 16 + n % 10
 abbrev pub legalOf : ℕ → ℕ → ℕ → Bool
 legalOf first last x = ltb (x % 16) 10 && ltb (x / 16) 10 && leb first x && leb x last
 
+-- one of two numbers by a test
+abbrev pub pickOf : Bool → ℕ → ℕ → ℕ
+pickOf b x y = cond b x y
+
 -- the next value; after the last one, and from an illegal one, the first (rule 3.3)
 unfoldable pub stepOf : ℕ → ℕ → ℕ → ℕ
 stepOf first last x = cond (legalOf first last x && ltb x last) (byteOf (valueOf x + 1)) first

@@ -1,4 +1,4 @@
--- Hours in both modes: the two columns of the sheet's table, midnight first. (rules 3.4 and 3.5)
+-- Hours in both modes, each a row of 24 codes, midnight first. (rules 3.4 and 3.5)
 use mathlib.Core.Bool.{Bool, cond}
 use mathlib.Core.List.{List, [], _∷_}
 use Prim.Native.Nat.{ℕ, suc, _+_}

@@ -1,4 +1,4 @@
--- The time of day. (rules 3.6 and 3.7)
+-- The time of day. (rules 3.3, 3.5 and 3.6)
 use mathlib.Core.Bool.{Bool, cond, _&&_}
 use Prim.Native.Nat.{ℕ, _+_, _*_, _/_, _%_}
 use lib.Dec.{eqb}

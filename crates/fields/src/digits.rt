@@ -1,7 +1,6 @@
 // A field of two BCD digits. (rules 3.1 to 3.3)
 ghost use mathlib.Core.Path.{_≡_};
-ghost use mathlib.Core.Bool.{cond};
-ghost use Rattle.fields.specs.Digits.{legalOf, stepOf, valueOf, byteOf};
+ghost use Rattle.fields.specs.Digits.{legalOf, stepOf, pickOf, valueOf, byteOf};
 
 // The number that the digits say. (rule 3.1)
 pub fn value(x: u8) -> u8
@@ -37,7 +36,7 @@ pub fn step(x: u8, first: u8, last: u8) -> u8
 
 // x where b holds, else y: a field that a carry may reach is one such choice.
 pub fn pick(b: bool, x: u8, y: u8) -> u8
-    ensures { λ r. ⌜ r ≡ cond b x y ⌝ }
+    ensures { λ r. ⌜ r ≡ pickOf b x y ⌝ }
 {
     if b { x } else { y }
 }

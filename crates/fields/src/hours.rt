@@ -23,7 +23,7 @@ pub fn mode(h: u8) -> HourMode
 }
 
 // The code of midnight. (rule 3.5)
-pub fn first_hour(m: HourMode) -> u8
+pub(crate) fn first_hour(m: HourMode) -> u8
     ensures { λ r. ⌜ r ≡ firstHour m ⌝ }
 {
     match m {
@@ -33,7 +33,7 @@ pub fn first_hour(m: HourMode) -> u8
 }
 
 // The hour of the day, 0 to 23, and 24 for a byte that is no hour. (rule 3.5)
-pub fn hour_number(h: u8) -> u8
+pub(crate) fn hour_number(h: u8) -> u8
     ensures { λ r. ⌜ r ≡ hourNumberOf h ⌝ }
 {
     match mode(h) {
@@ -61,7 +61,7 @@ fn number24(h: u8) -> u8
 }
 
 // The code of an hour of the day, and the mode's first for a number past 23. (rule 3.5)
-pub fn hour_byte(m: HourMode, n: u8) -> u8
+pub(crate) fn hour_byte(m: HourMode, n: u8) -> u8
     ensures { λ r. ⌜ r ≡ hourByteOf m n ⌝ }
 {
     match m {
@@ -85,7 +85,7 @@ fn byte24(n: u8) -> u8
 }
 
 // The code after h; after the last one, and from an illegal one, the first of h's mode. (rule 3.5)
-pub fn next_hour(h: u8) -> u8
+pub(crate) fn next_hour(h: u8) -> u8
     ensures { λ r. ⌜ r ≡ nextHourOf h ⌝ }
 {
     hour_byte(mode(h), hour_number(h) + 1)

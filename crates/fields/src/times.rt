@@ -29,7 +29,7 @@ impl TimeOfDay {
             & (hour_number(self.hours) < 24)
     }
 
-    // The whole seconds since midnight. (rule 3.6)
+    // The whole seconds since midnight; of illegal bytes only the sum. (rule 3.6)
     pub fn second(self) -> u32
         ensures { λ r. ⌜ r ≡ secondOf self ⌝ }
     {
