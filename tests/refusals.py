@@ -1,8 +1,9 @@
 """Why each must-fail edit was refused, read from the logs that `rt ci` leaves.
 
-An edit names the function or law that it is about, and an input at which the
-wrong program differs. The prover's first error has to stand there, and it has
-to be a fact that fails, not a proof that no longer fits the code's shape.
+An edit names the law, or the answer in a function's proof, that it is about,
+and an input at which the wrong program differs. The prover's first error has
+to stand there, and no error in that file may only say that the proof does not
+fit the code's shape any more.
 """
 
 import re
@@ -18,20 +19,17 @@ def comment(text, name):
     return found.group(1) if found else None
 
 
-def first_error(log):
-    """The first error's file below the crate, and its whole message."""
-    lines = log.read_text(encoding="utf-8", errors="replace").splitlines()
+def errors(log):
+    """The prover's errors: each one's file below the crate, and its whole message."""
     error = re.compile(r".*/%s/(\S+?):\d+:\d+: error: (.*)" % re.escape(log.parent.as_posix()))
-    for number, line in enumerate(lines):
-        found = error.match(line)
-        if found:
-            rest = []
-            for more in lines[number + 1:]:
-                if not more.startswith("  "):
-                    break
-                rest.append(more)
-            return found.group(1), "\n".join([found.group(2)] + rest)
-    return None, ""
+    found = []
+    for line in log.read_text(encoding="utf-8", errors="replace").splitlines():
+        begins = error.match(line)
+        if begins:
+            found.append([begins.group(1), begins.group(2)])
+        elif found and line.startswith("  "):
+            found[-1][1] += line
+    return found
 
 
 def fault(edit):
@@ -45,13 +43,13 @@ def fault(edit):
     log = Path("target/must-fail", edit.parent.parent.name, edit.stem, ".log")
     if not log.exists():
         return "it was not tried"
-    where, message = first_error(log)
-    if where != about:
-        return "it was refused in %s, not in %s" % (where, about)
-    for misfit in MISFITS:
-        if misfit in message:
-            return "only the proof's shape refused it: %s" % message.splitlines()[0]
-    return None
+    found = errors(log)
+    where, message = found[0] if found else ("no file", "")
+    name = re.match(r"`(.+?)`: ", message)
+    if "%s, %s" % (where, name and name.group(1)) != about:
+        return "it was refused in %s, %s, not in %s" % (where, name and name.group(1), about)
+    misfits = [m for f, m in found if f == where and any(misfit in m for misfit in MISFITS)]
+    return "a proof only misses its place: %s" % misfits[0] if misfits else None
 
 
 def main():

@@ -28,7 +28,7 @@ yearByteOf k = byteOf (k / 12)
 unfoldable pub daysOf : ℕ → ℕ
 daysOf k = valueOf (lastDayOf (monthByteOf k) (yearByteOf k))
 
--- the day number on which month k begins: 0, then each the one before plus the days of the month before (rule 3.13)
+-- the day number on which month k begins: 0, and for the next month when the days of this one are over (rule 3.13)
 unfoldable pub firstDayOf : ℕ → ℕ
 firstDayOf zero = 0
 firstDayOf (suc k) = firstDayOf k + daysOf k
