@@ -13,13 +13,6 @@ next-weekday w h =
       | no l ↦ rw (le-ltb w 6 (omega arith)) (omega arith)
     ]
 
-pub next-small : (w : ℕ) → nextWeekdayOf w < 7
-next-small w =
-    elim (decLt w 6) [
-      | yes l ↦ rw (lt-ltb w 6 l) (omega arith)
-      | no l ↦ rw (le-ltb w 6 (omega arith)) (omega arith)
-    ]
-
 pub as-legal : (w : ℕ) → w < 7 → asWeekday w ≡ w
 as-legal w h = rw (lt-ltb w 7 h) refl
 
@@ -32,6 +25,13 @@ next-weekday-as w =
 
 as-small : (w : ℕ) → asWeekday w < 7
 as-small w = elim (decLt w 7) [ yes l ↦ rw (lt-ltb w 7 l) l | no l ↦ rw (le-ltb w 7 (omega arith)) (omega arith) ]
+
+-- the step from any weekday, counted from what it is read as
+next-counted : (w : ℕ) → nextWeekdayOf w ≡ (asWeekday w + 1) % 7
+next-counted w = sym (next-weekday-as w) ∙ next-weekday (asWeekday w) (as-small w)
+
+pub next-small : (w : ℕ) → nextWeekdayOf w < 7
+next-small w = rw (next-counted w) (omega arith)
 
 -- no day on is no change, and each day more is one step more
 pub on-zero : (w : ℕ) → weekdayOnOf w 0 ≡ w
@@ -62,7 +62,7 @@ on-step w d =
           (next-weekday ((asWeekday w + d) % 7) (omega arith) ∙ counted (asWeekday w) d)
       | no l ↦
           let z : d ≡ 0 = omega arith in
-          rw (on-more w d, eq-eqb d 0 z) (sym (next-weekday-as w) ∙ next-weekday (asWeekday w) (as-small w) ∙ omega arith)
+          rw (on-more w d, eq-eqb d 0 z) (next-counted w ∙ omega arith)
     ]
   where
     counted : (a b : ℕ) → ((a + b) % 7 + 1) % 7 ≡ (a + (b + 1)) % 7
