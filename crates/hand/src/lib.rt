@@ -1,0 +1,5 @@
+// The hand of the clock: the time, the counter of the present second, the trim.
+mod hand;
+mod trim;
+
+pub use hand::Hand;

@@ -1,0 +1,55 @@
+-- The bits that always read 0. (rule 2.2)
+use mathlib.Core.Bool.{Bool, cond, _&&_}
+use Prim.Native.Nat.{ℕ, _-_, _*_, _/_, _%_}
+use lib.Dec.{eqb, ltb}
+use Rattle.calendar.specs.declared.time.Time.{Time}
+
+-- a byte with the bit of weight w made 0
+abbrev pub without : ℕ → ℕ → ℕ
+without w b = b - b / w % 2 * w
+
+-- of the time: bit 6 of 02h; bits 7 to 3 of 03h; bits 7, 6 of 04h; bits 7 to 5 of 05h; bit 7 of 00h, 01h
+unfoldable pub keptTime : ℕ → ℕ → ℕ
+keptTime a b =
+    cond (eqb a 0x02) (without 0x40 b)
+    (cond (eqb a 0x03) (b % 0x08)
+    (cond (eqb a 0x04) (b % 0x40)
+    (cond (eqb a 0x05) (b % 0x20)
+    (cond (eqb a 0x06) b
+    (b % 0x80)))))
+
+-- of the alarm: bits 7, 6 of 09h, 0Bh; bits 7 to 5 of 0Ch; bit 7 of 07h, 08h, 0Ah, 0Eh
+unfoldable pub keptAlarm : ℕ → ℕ → ℕ
+keptAlarm a b =
+    cond (eqb a 0x09) (b % 0x40)
+    (cond (eqb a 0x0B) (b % 0x40)
+    (cond (eqb a 0x0C) (b % 0x20)
+    (cond (eqb a 0x0D) b
+    (b % 0x80))))
+
+-- of the rest: bits 6, 3, 1 of 0Fh; bit 6 of 11h; bit 7 of 12h
+unfoldable pub keptControl : ℕ → ℕ → ℕ
+keptControl a b =
+    cond (eqb a 0x0F) (b - b / 0x40 % 2 * 0x40 - b / 0x08 % 2 * 0x08 - b / 0x02 % 2 * 0x02)
+    (cond (eqb a 0x11) (without 0x40 b)
+    (cond (eqb a 0x12) (b % 0x80)
+    b))
+
+-- what register a keeps of a byte
+unfoldable pub keptOf : ℕ → ℕ → ℕ
+keptOf a b = cond (ltb a 0x07) (keptTime a b) (cond (ltb a 0x0F) (keptAlarm a b) (keptControl a b))
+
+-- no fixed bit of register a is set in b
+unfoldable pub clearOf : ℕ → ℕ → Bool
+clearOf a b = eqb (keptOf a b) b
+
+-- the same of all seven bytes of a time
+unfoldable pub clearTimeOf : Time → Bool
+clearTimeOf t =
+    clearOf 0x00 (t .seconds)
+    && clearOf 0x01 (t .minutes)
+    && clearOf 0x02 (t .hours)
+    && clearOf 0x03 (t .weekday)
+    && clearOf 0x04 (t .day)
+    && clearOf 0x05 (t .month)
+    && clearOf 0x06 (t .year)

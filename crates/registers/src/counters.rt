@@ -1,0 +1,36 @@
+// Counters that return to 0 at a limit, and those that run down. (rules 4.1 and 5.9)
+ghost use mathlib.Core.Path.{_≡_};
+ghost use Rattle.fields.specs.Digits.{pickOf};
+ghost use Rattle.registers.specs.Counters.{reachedOf, turnedOf, lessOf};
+
+// Whether one more comes to the limit or is beyond it.
+pub fn reached(x: u32, limit: u32) -> bool
+    ensures { λ r. ⌜ r ≡ reachedOf x limit ⌝ }
+{
+    limit as u64 <= x as u64 + 1
+}
+
+// One more, or 0 where that comes to the limit or is beyond it.
+pub fn turned(x: u32, limit: u32) -> u32
+    ensures { λ r. ⌜ r ≡ turnedOf x limit ⌝ }
+{
+    if limit as u64 <= x as u64 + 1 {
+        0
+    } else {
+        x + 1
+    }
+}
+
+// n less, down to 0.
+pub fn less(x: u32, n: u32) -> u32
+    ensures { λ r. ⌜ r ≡ lessOf x n ⌝ }
+{
+    if x < n { 0 } else { x - n }
+}
+
+// x where b holds, else y.
+pub fn choose(b: bool, x: u32, y: u32) -> u32
+    ensures { λ r. ⌜ r ≡ pickOf b x y ⌝ }
+{
+    if b { x } else { y }
+}

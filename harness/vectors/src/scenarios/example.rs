@@ -1,0 +1,12 @@
+//! The worked example of the rules.
+
+use crate::script::Script;
+
+pub fn scripts() -> Vec<Script> {
+    let example = Script::at([0x20, 0x19, 0x98, 0x03, 0x20, 0x12, 0x06])
+        .start()
+        .write(&[0x65])
+        .read(2)
+        .stop();
+    vec![example]
+}

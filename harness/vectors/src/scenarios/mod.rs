@@ -1,0 +1,54 @@
+//! The stored scenarios, by part.
+
+mod alarm;
+mod bus;
+mod countdown;
+mod example;
+mod frequency;
+mod lock;
+mod power;
+mod refused;
+mod time;
+
+use crate::script::Script;
+
+/// Saturday, 2000-01-01, 00:00:00, 24-hour.
+const NEW_CENTURY: [u8; 7] = [0x00, 0x00, 0x80, 0x06, 0x01, 0x01, 0x00];
+
+/// An untrimmed second.
+const SECOND: u32 = 32_768;
+
+// Pin choices in 10h, with the lock bit.
+const BY_NONE: u8 = 0x80;
+const BY_ALARM: u8 = 0x90;
+const BY_FREQUENCY: u8 = 0xA0;
+const BY_COUNTDOWN: u8 = 0xB0;
+
+// Further bits of 10h.
+const PULSE_MODE: u8 = 0x40;
+const COUNTDOWN_ON: u8 = 0x04;
+const ALARM_ON: u8 = 0x02;
+const FREQUENCY_ON: u8 = 0x01;
+
+/// Bytes for 0Fh with the lock kept open.
+const CLEAR_FLAGS: u8 = 0x84;
+const KEEP_FLAGS: u8 = 0xB4;
+
+/// Bit 7 of 11h.
+const AUTO_RESET: u8 = 0x80;
+
+/// All stored scripts in their order.
+pub fn all_scripts() -> Vec<Script> {
+    [
+        example::scripts(),
+        lock::scripts(),
+        time::scripts(),
+        alarm::scripts(),
+        countdown::scripts(),
+        frequency::scripts(),
+        bus::scripts(),
+        power::scripts(),
+        refused::scripts(),
+    ]
+    .concat()
+}
