@@ -1,11 +1,9 @@
--- What 10h and 11h set beside the lock. (rules 2.5, 2.6, 5.11 and 8.2)
+-- What 10h and 11h set beside the lock. (rules 2.5, 2.6 and 8.2)
 use mathlib.Core.Bool.{Bool, cond}
-use Prim.Native.Nat.{ℕ, _/_, _%_}
+use Prim.Native.Nat.{ℕ, _+_, _/_, _%_}
 use lib.Dec.{eqb}
 use Rattle.registers.specs.Fixed.{keptOf, clearOf}
 use Rattle.control.specs.declared.control.Control.{Control}
-use Rattle.control.specs.declared.control.Source.{Source}
-use Rattle.control.specs.declared.control.Source.the-variants as source
 
 -- the bit of weight w
 abbrev pub bitOf : ℕ → ℕ → Bool
@@ -53,9 +51,9 @@ tdsOf c = c .ctr3 / 0x10 % 4
 abbrev pub fsOf : Control → ℕ
 fsOf c = c .ctr3 % 0x10
 
--- INTS: 0 off, 1 alarm, 2 frequency, 3 countdown
-abbrev pub sourceOf : Control → Source
-sourceOf c = cond (c .ints1) (cond (c .ints0) source.Countdown source.Frequency) (cond (c .ints0) source.Alarm source.Off)
+-- INTS, of its two bits
+abbrev pub intsOf : Control → ℕ
+intsOf c = cond (c .ints1) 2 0 + cond (c .ints0) 1 0
 
 -- the fixed bit of 11h is 0
 unfoldable pub wellOf : Control → Bool

@@ -1,8 +1,9 @@
 // What 10h and 11h set beside the lock. (rules 2.5, 2.6 and 8.2)
+use crate::bits::weight;
 use registers::clear;
 use registers::kept;
 ghost use mathlib.Core.Path.{_≡_};
-ghost use Rattle.control.specs.Control.{storedOf, wellOf, arstOf, tdsOf, fsOf, sourceOf};
+ghost use Rattle.control.specs.Control.{storedOf, wellOf, arstOf, tdsOf, fsOf, intsOf};
 
 pub struct Control {
     pub im: bool,
@@ -13,14 +14,6 @@ pub struct Control {
     pub intae: bool,
     pub intfe: bool,
     pub ctr3: u8,
-}
-
-// What INTS connects to the pin. (rule 5.11)
-pub enum Source {
-    Off,
-    Alarm,
-    Frequency,
-    Countdown,
 }
 
 impl Control {
@@ -68,21 +61,11 @@ impl Control {
         self.ctr3 % 0x10
     }
 
-    // INTS. (rule 5.11)
-    pub fn source(self) -> Source
-        ensures { λ r. ⌜ r ≡ sourceOf self ⌝ }
+    // INTS, 0 to 3. (rule 2.5)
+    pub fn ints(self) -> u8
+        ensures { λ r. ⌜ r ≡ intsOf self ⌝ }
     {
-        if self.ints1 {
-            if self.ints0 {
-                Source::Countdown
-            } else {
-                Source::Frequency
-            }
-        } else if self.ints0 {
-            Source::Alarm
-        } else {
-            Source::Off
-        }
+        weight(self.ints1, 2) + weight(self.ints0, 1)
     }
 
     // Whether the state may be handed in: the fixed bit of 11h. (rule 8.2)

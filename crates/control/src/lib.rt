@@ -1,10 +1,10 @@
 // The lock, the control registers and the levels of the pin.
+mod bits;
 mod control;
 mod lock;
 mod pin;
 
 pub use control::Control;
-pub use control::Source;
 pub use lock::Lock;
 pub use lock::ctr1;
 pub use lock::ctr2;

@@ -1,8 +1,8 @@
 // The lock, and the two registers that its bits stand in. (rules 7.1 to 7.5, 2.4 and 2.5)
+use crate::bits::either;
+use crate::bits::weight;
 use crate::control::Control;
 ghost use mathlib.Core.Path.{_≡_};
-ghost use Prim.Native.Nat.{_≤_};
-ghost use mathlib.Core.Bool.{cond};
 ghost use Rattle.control.specs.Lock.{openOf, writtenOf, wellOf, ctr1Of, ctr2Of};
 
 pub struct Lock {
@@ -45,20 +45,6 @@ impl Lock {
     {
         self.wrtc1 | !(self.wrtc2 | self.wrtc3)
     }
-}
-
-// x where b holds, else y.
-fn either(b: bool, x: bool, y: bool) -> bool
-    ensures { λ r. ⌜ r ≡ cond b x y ⌝ }
-{
-    if b { x } else { y }
-}
-
-// What a bit adds to its byte.
-fn weight(b: bool, w: u8) -> u8
-    ensures { λ r. ⌜ (r ≡ cond b w 0) × (r ≤ w) ⌝ }
-{
-    if b { w } else { 0 }
 }
 
 // Register 0Fh. (rule 2.4)

@@ -1,6 +1,6 @@
 // The levels of the pin. (rules 5.11 to 5.14)
 ghost use mathlib.Core.Path.{_≡_};
-ghost use Rattle.control.specs.Pin.{drivenOf, bellOf, lowHalfOf, outputOf, frequencyOf};
+ghost use Rattle.control.specs.Pin.{letterOf, drivenOf, bellOf, lowHalfOf, outputOf, frequencyOf};
 
 pub enum Level {
     High,
@@ -10,14 +10,14 @@ pub enum Level {
 
 // A pin that is low or high.
 fn driven(low: bool) -> Level
-    ensures { λ r. ⌜ r ≡ drivenOf low ⌝ }
+    ensures { λ r. ⌜ letterOf r ≡ drivenOf low ⌝ }
 {
     if low { Level::Low } else { Level::High }
 }
 
 // Alarm or countdown: under IM 0 the flag decides, under IM 1 its pin pulse while enabled. (rule 5.12)
 pub fn bell(im: bool, flag: bool, enabled: bool, pulse: u32) -> Level
-    ensures { λ r. ⌜ r ≡ bellOf im flag enabled pulse ⌝ }
+    ensures { λ r. ⌜ letterOf r ≡ bellOf im flag enabled pulse ⌝ }
 {
     if im {
         driven(enabled & (0 < pulse))
@@ -48,7 +48,7 @@ fn low_half(fs: u8, divider: u32) -> bool
 }
 
 fn output(fs: u8, divider: u32, counter: u32) -> Level
-    ensures { λ r. ⌜ r ≡ outputOf fs divider counter ⌝ }
+    ensures { λ r. ⌜ letterOf r ≡ outputOf fs divider counter ⌝ }
 {
     match fs {
         0 => Level::High,
@@ -60,7 +60,7 @@ fn output(fs: u8, divider: u32, counter: u32) -> Level
 
 // The frequency that FS names, high unless INTFE is 1. (rules 5.13 and 5.14)
 pub fn frequency(intfe: bool, fs: u8, divider: u32, counter: u32) -> Level
-    ensures { λ r. ⌜ r ≡ frequencyOf intfe fs divider counter ⌝ }
+    ensures { λ r. ⌜ letterOf r ≡ frequencyOf intfe fs divider counter ⌝ }
 {
     if intfe {
         output(fs, divider, counter)

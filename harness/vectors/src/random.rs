@@ -120,6 +120,25 @@ impl Author<'_> {
         if self.noise.percent(70) {
             self.event(Event::READ_NAK, 0, 0);
         }
+        if self.noise.percent(10) {
+            let turned = self.chip.regs[0x11] ^ 0x80;
+            self.send(&[0x64, 0x11, turned]);
+        }
+        self.close();
+    }
+
+    /// A read that goes on while the second ends.
+    fn fetch_over_the_end(&mut self) {
+        let ahead = self.noise.between(1, 4);
+        let count = self.to_end_of_second().saturating_sub(ahead);
+        self.spend(count.min(self.pulses));
+        let at = self.noise.pick(&[0x00, 0x1D, 0x1E, 0x1F]);
+        self.send(&[0x64, at]);
+        self.send(&[0x65]);
+        for _ in 0..self.noise.between(3, 6) {
+            self.event(Event::READ_ACK, 0, 0);
+            self.event(Event::PULSES, 0, 1);
+        }
         self.close();
     }
 
@@ -144,7 +163,7 @@ impl Author<'_> {
 
     /// Spends pulses in one event, or in several if they are many.
     fn spend(&mut self, mut count: u32) {
-        self.pulses -= count;
+        self.pulses = self.pulses.saturating_sub(count);
         while count > 0 {
             let part = count.min(65_535);
             self.event(Event::PULSES, 0, part as u16);
@@ -154,15 +173,24 @@ impl Author<'_> {
 
     /// The distance to a pulse at which something happens.
     fn aim(&mut self) -> u32 {
-        let chip = &self.chip;
-        match self.noise.below(10) {
+        let (alarm, countdown) = (self.chip.alarm_pulse, self.chip.countdown_pulse);
+        if alarm > 0 && self.noise.percent(40) {
+            u32::from(alarm)
+        } else if countdown > 0 && self.noise.percent(25) {
+            u32::from(countdown)
+        } else if self.chip.phase != Phase::Closed && self.noise.percent(25) {
+            self.to_time_out()
+        } else {
+            self.aim_at_a_counter()
+        }
+    }
+
+    fn aim_at_a_counter(&mut self) -> u32 {
+        match self.noise.below(8) {
             0..=2 => self.to_end_of_second(),
-            3 => 16_384u32.saturating_sub(chip.second_counter),
-            4 => u32::from(chip.alarm_pulse),
-            5 => u32::from(chip.countdown_pulse),
-            6 => self.to_tick(),
-            7 => self.to_time_out(),
-            8 => {
+            3 => 16_384u32.saturating_sub(self.chip.second_counter),
+            4..=5 => self.to_tick(),
+            6 => {
                 let half = 1 << self.noise.between(2, 16);
                 half - self.chip.divider % half
             }
@@ -225,37 +253,77 @@ impl Author<'_> {
 
     fn any_move(&mut self) {
         match self.noise.below(100) {
-            0..=34 => self.some_pulses(),
-            35..=49 => self.fetch(),
-            50..=57 => self.set_controls(),
+            0..=31 => self.some_pulses(),
+            32..=41 => self.fetch(),
+            42..=44 => self.fetch_over_the_end(),
+            45..=50 => self.turn_a_control(),
+            51..=57 => self.set_controls(),
             58..=63 => self.set_alarm(),
             64..=68 => self.set_time(),
             69..=73 => self.set_countdown(),
             74..=77 => self.write_flags(),
             78..=80 => self.set_enable(),
-            81..=84 => self.write_anywhere(),
-            85..=87 => self.unlock(),
-            88..=91 => self.event(Event::STOP, 0, 0),
-            92..=93 => self.event(Event::START, 0, 0),
-            94..=97 => self.arbitrary_event(),
+            81..=83 => self.write_anywhere(),
+            84..=86 => self.unlock(),
+            87..=89 => self.event(Event::STOP, 0, 0),
+            90..=91 => self.event(Event::START, 0, 0),
+            92..=97 => self.arbitrary_event(),
             98 => self.lock(),
-            _ => self.event(Event::POWER_LOSS, 0, 0),
+            _ => self.power_cycle(),
         }
     }
 
-    /// Controls from 10h on, with the lock bit mostly kept.
+    /// Power goes, and mostly the host sets up again.
+    fn power_cycle(&mut self) {
+        self.event(Event::POWER_LOSS, 0, 0);
+        if self.noise.percent(80) {
+            self.unlock();
+            self.set_controls();
+        }
+    }
+
+    /// One bit of 10h or 11h changes, the others stay.
+    fn turn_a_control(&mut self) {
+        if self.noise.percent(80) {
+            let bit = self.noise.pick(&[0x04, 0x04, 0x02, 0x01, 0x40, 0x20, 0x10]);
+            self.store(0x10, &[self.chip.regs[0x10] ^ bit | 0x80]);
+        } else {
+            let bit = 1 << self.noise.below(8);
+            self.store(0x11, &[self.chip.regs[0x11] ^ bit]);
+        }
+    }
+
+    /// Controls from 10h on.
     fn set_controls(&mut self) {
-        let keep = if self.noise.percent(97) { 0x80 } else { 0x00 };
-        let ctr2 = self.noise.byte() & 0x7F | keep;
-        let ctr3 = self.noise.byte() & 0x8F | self.tick_choice();
+        let ctr2 = self.control_bits();
+        let ctr3 = self.noise.byte() & 0x80 | self.tick_choice() | self.frequency_choice();
         let trim = self.noise.byte();
         let trim = self.noise.pick(&[
-            0x00, 0x02, 0x3F, 0x40, 0x41, 0x42, 0x7F, 0x01, 0x15, trim, trim,
+            0x00, 0x01, 0x02, 0x15, 0x3F, 0x40, 0x41, 0x42, 0x7F, trim, trim,
         ]);
         let count = self.short_count();
         let all = [ctr2, ctr3, trim, count];
         let length = self.noise.between(1, 4) as usize;
         self.store(0x10, &all[..length]);
+    }
+
+    /// A byte for 10h: the lock bit is mostly kept, and the source that the
+    /// pin shows is mostly enabled.
+    fn control_bits(&mut self) -> u8 {
+        const SOURCES: [u8; 5] = [0x12, 0x21, 0x34, 0x02, 0x04];
+        let any = self.noise.byte();
+        if self.noise.percent(3) {
+            any & 0x7F
+        } else if self.noise.percent(30) {
+            any | 0x80
+        } else {
+            any & 0x4F | self.noise.pick(&SOURCES) | 0x80
+        }
+    }
+
+    fn frequency_choice(&mut self) -> u8 {
+        let any = self.noise.below(16) as u8;
+        self.noise.pick(&[0x01, 0x0F, any, any, any, any, any])
     }
 
     fn tick_choice(&mut self) -> u8 {
@@ -269,10 +337,10 @@ impl Author<'_> {
 
     fn set_countdown(&mut self) {
         let count = self.short_count();
-        let keep = self.noise.byte() & 0xFB | 0x80;
+        let controls = self.control_bits() | 0x04;
         self.store(0x13, &[count]);
         if self.noise.percent(70) {
-            self.store(0x10, &[keep | 0x04]);
+            self.store(0x10, &[controls]);
         }
     }
 
@@ -292,6 +360,10 @@ impl Author<'_> {
             bytes[at] ^= 1 << self.noise.below(8);
         }
         self.store(0x07, &bytes);
+        if self.noise.percent(60) {
+            let count = self.to_end_of_second().clamp(1, self.pulses.max(1));
+            self.spend(count);
+        }
     }
 
     fn enable_byte(&mut self) -> u8 {

@@ -127,9 +127,9 @@ impl Script {
         self.stop()
     }
 
-    /// Shows the registers just before and just at this pulse.
+    /// Shows the registers just before the last of these pulses.
     pub fn pulses_shown(self, count: u32) -> Script {
-        self.pulses(count - 1).show().pulses(1).show()
+        self.pulses(count - 1).show().pulses(1)
     }
 
     pub fn pulse_count(&self) -> u64 {

@@ -87,7 +87,7 @@ fn the_stored_scripts_are_not_too_long() {
         event_count(&scripts),
         pulse_count(&scripts)
     );
-    assert!(event_count(&scripts) < 1_800);
+    assert!(event_count(&scripts) < 1_550);
     assert!(pulse_count(&scripts) < 4_000_000);
 }
 
@@ -124,12 +124,6 @@ fn random_scripts_reach_deep_states() {
     println!("{all} shown, {open} open, {alarm} alarm, {countdown} countdown");
     println!("{low} low, {crystal} crystal, {refused} refused");
     assert!(open * 2 > all);
-    assert!(alarm > 100 && countdown > 300);
-    assert!(low > 3_000 && crystal > 100 && refused > 200);
-}
-#[test]
-fn tmp_counts() {
-    for (i, s) in all_scripts().iter().enumerate() {
-        println!("{i} {} {}", s.events.len(), s.pulse_count());
-    }
+    assert!(alarm > 200 && countdown > 200);
+    assert!(low > 2_000 && crystal > 200 && refused > 100);
 }

@@ -3,165 +3,123 @@
 use super::{ALARM_ON, BY_ALARM, BY_NONE, CLEAR_FLAGS, KEEP_FLAGS, PULSE_MODE, SECOND};
 use crate::script::Script;
 
+/// The afternoon of a Wednesday.
 const TIME: [u8; 7] = [0x30, 0x59, 0x29, 0x03, 0x17, 0x08, 0x33];
-
-pub fn scripts() -> Vec<Script> {
-    vec![
-        seconds_only(),
-        day_before_weekday(),
-        weekday_bits(),
-        afternoon_hour(),
-        hour_without_mode(),
-        all_fields_at_the_end_of_century(),
-        switched_off(),
-        enable_clears_the_flag(),
-        locked_enable_does_not(),
-        written_into_a_match(),
-        pulse_mode(),
-        pulse_mode_and_the_enable(),
-        each_matching_second(),
-    ]
-}
-
-/// The alarm bytes from 07h on with the enable byte, the pin as given.
-fn alarm(time: [u8; 7], bytes: [u8; 8], controls: u8) -> Script {
-    Script::at(time)
-        .unlock_with(&[controls])
-        .store(0x07, &bytes)
-}
 
 const LEVEL: u8 = BY_ALARM | ALARM_ON;
 const PULSE: u8 = BY_ALARM | ALARM_ON | PULSE_MODE;
 
-/// Rings at the second 31h.
-const AT_SECOND_31: [u8; 8] = [0x31, 0, 0, 0, 0, 0, 0, 0x01];
+pub fn scripts() -> Vec<Script> {
+    vec![
+        seconds_only(),
+        day_weekday_and_hour(),
+        all_fields_at_the_end_of_century(),
+        switched_off(),
+        enable_clears_the_flag(),
+        pulse_mode(),
+        each_matching_second(),
+    ]
+}
 
+/// Rings at the second 31h, which TIME reaches next.
+fn at_second_31(controls: u8) -> Script {
+    Script::at(TIME)
+        .unlock_with(&[controls])
+        .storing(0x07, &[0x31])
+        .storing(0x0E, &[0x01])
+        .stop()
+}
+
+/// A flag written 1 stays as it is, written 0 it clears.
 fn seconds_only() -> Script {
-    alarm(TIME, AT_SECOND_31, LEVEL)
-        .pulses_shown(SECOND)
+    at_second_31(LEVEL)
+        .pulses(SECOND - 1)
+        .pulses(1)
         .store(0x0F, &[KEEP_FLAGS])
-        .store(0x0F, &[CLEAR_FLAGS])
+        .storing(0x0F, &[CLEAR_FLAGS])
         .store(0x0F, &[KEEP_FLAGS])
-        .pulses(SECOND)
-        .show()
 }
 
-/// Right day with wrong weekday rings, the other way round does not.
-fn day_before_weekday() -> Script {
-    alarm(TIME, [0, 0, 0, 0x00, 0x17, 0, 0, 0x18], LEVEL)
+/// The day decides where both are enabled; a weekday alone goes by its bit,
+/// and the eighth weekday has none. Nine in the evening is not nine in the
+/// morning, but the mode does not count.
+fn day_weekday_and_hour() -> Script {
+    Script::at(TIME)
+        .unlock_with(&[LEVEL])
+        .storing(0x0A, &[0x00, 0x17, 0x00, 0x00, 0x18])
         .pulses(SECOND)
-        .show()
-        .store(0x0A, &[0x08, 0x18, 0x00, 0x00, 0x18])
+        .storing(0x0A, &[0x08, 0x18, 0x00, 0x00, 0x18])
         .pulses(SECOND)
-        .show()
-}
-
-fn weekday_bits() -> Script {
-    alarm(TIME, [0, 0, 0, 0x08, 0, 0, 0, 0x08], LEVEL)
+        .storing(0x0E, &[0x08])
         .pulses(SECOND)
-        .store(0x0A, &[0xF7])
-        .store(0x0F, &[CLEAR_FLAGS])
+        .storing(0x0A, &[0xF7, 0x17, 0x00, 0x00, 0x08])
         .pulses(SECOND)
-        .store(0x0A, &[0xFF])
-        .store(0x03, &[0x07])
+        .storing(0x02, &[0x29, 0x07])
+        .storing(0x09, &[0x09, 0xFF])
         .pulses(SECOND)
-        .show()
-}
-
-/// Nine in the evening is not nine in the morning.
-fn afternoon_hour() -> Script {
-    alarm(TIME, [0x31, 0x59, 0x09, 0, 0, 0, 0, 0x07], LEVEL)
+        .storing(0x0E, &[0x04])
         .pulses(SECOND)
-        .store(0x07, &[0x32, 0x59, 0x29])
+        .storing(0x09, &[0xE9])
         .pulses(SECOND)
-        .show()
-}
-
-fn hour_without_mode() -> Script {
-    let time = [0x30, 0x59, 0x92, 0x03, 0x17, 0x08, 0x33];
-    alarm(time, [0, 0, 0xD2, 0, 0, 0, 0, 0x04], LEVEL)
+        .storing(0x02, &[0xA9])
+        .storing(0x0E, &[0x04])
         .pulses(SECOND)
-        .show()
 }
 
 fn all_fields_at_the_end_of_century() -> Script {
-    let time = [0x59, 0x59, 0xA3, 0x06, 0x31, 0x12, 0x99];
-    alarm(time, [0, 0, 0, 0x01, 0x01, 0x01, 0x00, 0x7F], LEVEL).pulses_shown(SECOND)
+    Script::at([0x59, 0x59, 0xA3, 0x06, 0x31, 0x12, 0x99])
+        .unlock_with(&[LEVEL])
+        .store(0x07, &[0x00, 0x00, 0x00, 0x01, 0x01, 0x01, 0x00, 0xFF])
+        .pulses_shown(SECOND)
 }
 
-/// Nothing rings while it is off, nor when it is switched on afterwards.
+/// Silent while off, silent when switched on within the match, and silent
+/// when the match is made by a write.
 fn switched_off() -> Script {
-    alarm(TIME, AT_SECOND_31, BY_ALARM)
+    at_second_31(BY_ALARM)
         .pulses(SECOND)
-        .store(0x10, &[PULSE])
-        .store(0x10, &[LEVEL])
-        .store(0x0E, &[0x80])
+        .storing(0x10, &[LEVEL])
+        .storing(0x0E, &[0x80])
         .pulses(SECOND)
-        .show()
+        .storing(0x0E, &[0x01])
+        .store(0x00, &[0x31])
 }
 
+/// A stored 0Eh clears the flag, a locked one does not.
 fn enable_clears_the_flag() -> Script {
-    alarm(TIME, AT_SECOND_31, LEVEL)
+    at_second_31(LEVEL)
         .pulses(SECOND)
         .store(0x07, &[0x32])
         .store(0x0E, &[0x01])
-        .pulses(SECOND)
-        .show()
-}
-
-fn locked_enable_does_not() -> Script {
-    alarm(TIME, AT_SECOND_31, LEVEL)
-        .store(0x0F, &[0x80])
+        .storing(0x0F, &[0x80])
         .pulses(SECOND)
         .store(0x0E, &[0x00])
-        .store(0x10, &[0x00])
-        .store(0x0E, &[0x00])
 }
 
-/// A match made by a write stays silent.
-fn written_into_a_match() -> Script {
-    alarm(TIME, AT_SECOND_31, LEVEL)
-        .store(0x00, &[0x31])
-        .store(0x07, &[0x31])
-        .store(0x0E, &[0x01])
-        .pulses(SECOND)
-        .show()
-}
-
+/// The pulse runs unseen under another source and while disabled, and
+/// neither the cleared flag nor 0Eh cuts it short.
 fn pulse_mode() -> Script {
-    alarm(TIME, AT_SECOND_31, PULSE)
-        .pulses_shown(SECOND)
-        .store(0x0F, &[CLEAR_FLAGS])
-        .store(0x0E, &[0x00])
-        .pulses(8_190)
-        .pulses(1)
-        .pulses(1)
-        .show()
-}
-
-/// The pulse runs on unseen, under another source and while disabled.
-fn pulse_mode_and_the_enable() -> Script {
-    alarm(TIME, AT_SECOND_31, BY_NONE | ALARM_ON)
+    at_second_31(BY_NONE | ALARM_ON)
         .pulses(SECOND)
-        .store(0x10, &[PULSE])
-        .store(0x10, &[BY_ALARM | PULSE_MODE])
+        .storing(0x10, &[PULSE])
+        .storing(0x0E, &[0x00, CLEAR_FLAGS])
+        .storing(0x10, &[BY_ALARM | PULSE_MODE])
         .pulses(4_000)
-        .store(0x10, &[LEVEL])
-        .store(0x10, &[PULSE])
+        .storing(0x10, &[PULSE])
         .pulses(4_191)
         .pulses(1)
-        .store(0x10, &[BY_ALARM])
-        .store(0x0F, &[CLEAR_FLAGS])
 }
 
 /// With only the minute compared each second of it rings anew.
 fn each_matching_second() -> Script {
-    alarm(TIME, [0, 0x59, 0, 0, 0, 0, 0, 0x02], PULSE)
+    Script::at(TIME)
+        .unlock_with(&[PULSE])
+        .storing(0x08, &[0x59])
+        .storing(0x0E, &[0x02])
         .pulses(SECOND)
         .pulses(8_192)
         .store(0x0F, &[CLEAR_FLAGS])
         .pulses(SECOND - 8_192)
         .pulses(8_191)
         .pulses(1)
-        .show()
 }

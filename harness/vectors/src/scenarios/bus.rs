@@ -1,8 +1,6 @@
 //! The bus: phases, pointer, latch, time-out and the flag reset at STOP.
 
-use super::{
-    ALARM_ON, AUTO_RESET, BY_COUNTDOWN, BY_NONE, COUNTDOWN_ON, NEW_CENTURY, PULSE_MODE, SECOND,
-};
+use super::{AUTO_RESET, BY_COUNTDOWN, COUNTDOWN_ON, NEW_CENTURY, PULSE_MODE, SECOND};
 use crate::script::Script;
 
 pub fn scripts() -> Vec<Script> {
@@ -14,49 +12,35 @@ pub fn scripts() -> Vec<Script> {
         latch_while_time_moves(),
         latch_at_the_address(),
         wrap_while_reading(),
-        wrap_while_writing(),
         nak_makes_deaf(),
         refused_addresses(),
         refused_pointers(),
         other_phases(),
-        reset_at_stop(),
-        reset_only_if_read(),
-        reset_judged_at_stop(),
+        flags_reset(),
         reset_of_a_later_flag(),
-        reset_under_the_lock(),
-        time_out_resets_nothing(),
     ]
 }
 
+/// Turns to reading from where the transfer stands.
+fn reading(script: Script) -> Script {
+    script.start().write(&[0x65])
+}
+
 fn pointer_over_repeated_starts() -> Script {
-    Script::at(NEW_CENTURY)
-        .unlock()
-        .storing(0x14, &[0x51, 0x52])
-        .start()
-        .write(&[0x65])
-        .read(2)
-        .start()
-        .write(&[0x65])
-        .read_on(2)
-        .start()
-        .write(&[0x64, 0x14])
-        .start()
-        .write(&[0x65])
-        .read(1)
-        .stop()
-        .start()
-        .write(&[0x65])
-        .read(1)
-        .stop()
+    let script = Script::at(NEW_CENTURY).start().write(&[0x64, 0x14]);
+    let script = reading(script).read(2);
+    let script = reading(script).read_on(2).start().write(&[0x64, 0x1A]);
+    let script = reading(script).read(1).stop();
+    reading(script).read(1)
 }
 
 /// A repeated START does not renew the age, a new transfer does.
 fn age_runs_on() -> Script {
     Script::at(NEW_CENTURY)
+        .pulses(5)
         .start()
-        .pulses(8_000)
         .write(&[0x00])
-        .pulses(8_000)
+        .pulses(16_000)
         .start()
         .write(&[0x65])
         .pulses(383)
@@ -68,72 +52,59 @@ fn age_runs_on() -> Script {
         .pulses(16_383)
         .write(&[0x65])
         .read(1)
-        .stop()
 }
 
+/// The pointer is back at 00h after it.
 fn time_out() -> Script {
-    Script::at(NEW_CENTURY)
-        .pulses(5)
+    let script = Script::at(NEW_CENTURY)
         .fetching(0x14)
         .pulses(16_383)
         .read_on(2)
         .pulses(1)
-        .read(2)
-        .start()
-        .write(&[0x65])
-        .read_on(1)
-        .pulses(16_384)
-        .stop()
+        .read(2);
+    reading(script).read_on(2).stop()
 }
 
-/// Bytes after the time-out are lost, and a new START begins at 00h.
+/// A write wraps to 00h just before the time-out; bytes after it are lost.
 fn time_out_while_writing() -> Script {
-    Script::at(NEW_CENTURY)
+    let script = Script::at(NEW_CENTURY)
         .unlock()
-        .storing(0x14, &[0x61])
+        .storing(0x1E, &[0x61])
         .pulses(16_383)
-        .write(&[0x62])
+        .write(&[0x62, 0x25, 0x26])
         .pulses(1)
-        .write(&[0x63])
-        .start()
-        .write(&[0x65])
-        .read(1)
-        .stop()
+        .write(&[0x63]);
+    reading(script).read(2)
 }
 
 fn latch_while_time_moves() -> Script {
-    Script::at([0x59, 0x59, 0xA3, 0x06, 0x31, 0x12, 0x99])
-        .pulses(SECOND - 8)
-        .start()
-        .write(&[0x65])
+    let script = Script::at([0x59, 0x59, 0xA3, 0x06, 0x31, 0x12, 0x99]).pulses(SECOND - 8);
+    reading(script)
+        .pulses(7)
         .read_on(1)
-        .pulses(8)
+        .pulses(1)
         .read_on(6)
-        .start()
-        .write(&[0x64, 0x00])
-        .start()
-        .write(&[0x65])
-        .read(7)
-        .stop()
+        .fetching(0x00)
+        .read(3)
 }
 
 /// Neither START nor the first read takes the time.
 fn latch_at_the_address() -> Script {
     Script::at(NEW_CENTURY)
-        .pulses(SECOND - 2)
+        .pulses(SECOND - 1)
         .start()
         .pulses(1)
-        .write(&[0x65])
-        .pulses(1)
-        .read(1)
-        .start()
-        .write(&[0x64, 0x00])
-        .start()
         .write(&[0x65])
         .read(1)
         .stop()
+        .pulses(SECOND - 1)
+        .start()
+        .write(&[0x65])
+        .pulses(1)
+        .read(1)
 }
 
+/// The time is taken at the read of 1Fh, not at the read of 00h after it.
 fn wrap_while_reading() -> Script {
     Script::at(NEW_CENTURY)
         .pulses(SECOND - 2)
@@ -147,62 +118,37 @@ fn wrap_while_reading() -> Script {
         .read_on(1)
         .pulses(1)
         .read_on(1)
-        .stop()
-}
-
-fn wrap_while_writing() -> Script {
-    Script::at(NEW_CENTURY)
-        .unlock()
-        .storing(0x1E, &[0x71, 0x72, 0x25, 0x26])
-        .start()
-        .write(&[0x65])
-        .read_on(2)
-        .stop()
 }
 
 /// After the NAK only a START helps; the pointer has stepped.
 fn nak_makes_deaf() -> Script {
-    Script::at(NEW_CENTURY)
+    let script = Script::at(NEW_CENTURY)
         .fetching(0x14)
         .read(1)
         .read(2)
-        .write(&[0x64, 0x65, 0x00])
-        .start()
-        .write(&[0x65])
-        .read(1)
-        .stop()
+        .write(&[0x64, 0x65]);
+    reading(script).read(1)
 }
 
+/// Deaf after each of them, and the pointer stays.
 fn refused_addresses() -> Script {
-    let try_one = |script: Script, address: u8| script.start().write(&[address, 0x64]).read_on(1);
+    let refuse = |script: Script, address: u8| script.start().write(&[address, 0x64]);
     let script = Script::at(NEW_CENTURY).start().write(&[0x64, 0x15]);
-    [0x00, 0x63, 0x66, 0xE4, 0xE5, 0xFF]
-        .into_iter()
-        .fold(script, try_one)
-        .start()
-        .write(&[0x65])
-        .read(1)
-        .stop()
+    let script = [0x00, 0x63, 0x66, 0xE5].into_iter().fold(script, refuse);
+    reading(script.read_on(1)).read(1)
 }
 
-/// A refused pointer leaves the old one standing.
 fn refused_pointers() -> Script {
-    let try_one =
-        |script: Script, pointer: u8| script.start().write(&[0x64, pointer, 0x14]).read_on(1);
+    let refuse = |script: Script, pointer: u8| script.start().write(&[0x64, pointer, 0x14]);
     let script = Script::at(NEW_CENTURY).start().write(&[0x64, 0x1F]);
-    [0x20, 0x34, 0x65, 0x80, 0xFF]
-        .into_iter()
-        .fold(script, try_one)
-        .start()
-        .write(&[0x65])
-        .read(1)
-        .stop()
+    let script = [0x20, 0x65, 0x94].into_iter().fold(script, refuse);
+    reading(script.read_on(1)).read(1)
 }
 
 /// Bytes and reads where none is awaited.
 fn other_phases() -> Script {
     Script::at(NEW_CENTURY)
-        .write(&[0x64, 0x65])
+        .write(&[0x64])
         .read(2)
         .start()
         .read(2)
@@ -212,97 +158,59 @@ fn other_phases() -> Script {
         .read(2)
         .write(&[0x65])
         .start()
-        .write(&[0x65, 0x64, 0x65])
-        .read_on(1)
-        .write(&[0x00])
+        .write(&[0x65, 0x64])
         .read(1)
         .write(&[0x00])
         .stop()
         .stop()
 }
 
-/// The countdown flag is up and will not come again.
-fn flag_up(ctr3: u8) -> Script {
-    Script::at(NEW_CENTURY)
-        .unlock_with(&[BY_COUNTDOWN | COUNTDOWN_ON | ALARM_ON, ctr3, 0x00, 0x01])
-        .pulses(8)
-        .store(0x13, &[0x00])
+/// A running countdown: 8 pulses raise the flag, each 16 more raise it again.
+fn running(controls: u8) -> Script {
+    let controls = BY_COUNTDOWN | COUNTDOWN_ON | controls;
+    Script::at(NEW_CENTURY).unlock_with(&[controls, AUTO_RESET, 0x00, 0x01])
 }
 
-fn reset_at_stop() -> Script {
-    flag_up(AUTO_RESET)
+/// At STOP and not before; not by reads beside 0Fh, not by FFh in its place,
+/// not after a time-out; but under the lock as well. 11h counts as it stands
+/// at STOP.
+fn flags_reset() -> Script {
+    running(0)
+        .pulses(8)
         .fetching(0x0F)
         .read(1)
         .start()
-        .write(&[0x64, 0x14])
+        .write(&[0x00])
         .stop()
-        .stop()
-}
-
-/// Passing by 0Fh without reading it, or reading FFh there, is no read.
-fn reset_only_if_read() -> Script {
-    flag_up(AUTO_RESET)
-        .fetch(0x10, 2)
+        .pulses(16)
+        .fetch(0x10, 1)
         .start()
         .write(&[0x64, 0x0F])
-        .read(2)
-        .stop()
-        .fetching(0x0E)
         .read(1)
         .stop()
         .fetching(0x0E)
-        .read(2)
-        .power_loss()
+        .read_on(2)
+        .pulses(16_384)
         .stop()
-}
-
-/// 11h as it stands at STOP decides.
-fn reset_judged_at_stop() -> Script {
-    flag_up(0x00)
-        .fetch(0x0F, 1)
-        .fetching(0x0F)
-        .read_on(1)
-        .storing(0x11, &[AUTO_RESET])
-        .stop()
-        .store(0x13, &[0x01])
-        .pulses(8)
         .fetching(0x0F)
         .read_on(1)
         .storing(0x11, &[0x00])
         .stop()
+        .fetching(0x0F)
+        .read_on(1)
+        .storing(0x11, &[AUTO_RESET])
+        .stop()
+        .pulses(16)
+        .storing(0x10, &[0x00])
+        .stop()
+        .fetch(0x0E, 2)
 }
 
 /// A flag that comes after the read goes with the STOP; the pulse stays.
 fn reset_of_a_later_flag() -> Script {
-    let controls = BY_COUNTDOWN | COUNTDOWN_ON | PULSE_MODE;
-    Script::at(NEW_CENTURY)
-        .unlock_with(&[controls, AUTO_RESET, 0x00, 0x02])
+    running(PULSE_MODE)
         .fetching(0x0F)
         .read_on(1)
-        .pulses(16)
-        .start()
-        .write(&[0x64, 0x0F])
-        .start()
-        .write(&[0x65])
-        .read(1)
+        .pulses(8)
         .stop()
-        .storing(0x10, &[BY_COUNTDOWN | COUNTDOWN_ON])
-        .stop()
-}
-
-fn reset_under_the_lock() -> Script {
-    flag_up(AUTO_RESET).store(0x10, &[0x00]).fetch(0x0F, 1)
-}
-
-fn time_out_resets_nothing() -> Script {
-    flag_up(AUTO_RESET)
-        .fetching(0x0F)
-        .read_on(1)
-        .pulses(16_384)
-        .stop()
-        .start()
-        .write(&[0x65])
-        .read(1)
-        .stop()
-        .store(0x10, &[BY_NONE])
 }

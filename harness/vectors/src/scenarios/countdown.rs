@@ -1,51 +1,52 @@
 //! The countdown: sources, reload, prescaler and pin.
 
-use super::{BY_COUNTDOWN, BY_NONE, CLEAR_FLAGS, COUNTDOWN_ON, NEW_CENTURY, PULSE_MODE, SECOND};
-use super::{BY_FREQUENCY, FREQUENCY_ON};
+use super::{
+    BY_COUNTDOWN, BY_FREQUENCY, CLEAR_FLAGS, COUNTDOWN_ON, FREQUENCY_ON, NEW_CENTURY, PULSE_MODE,
+    SECOND,
+};
 use crate::script::Script;
+
+const LEVEL: u8 = BY_COUNTDOWN | COUNTDOWN_ON;
+const PULSE: u8 = BY_COUNTDOWN | COUNTDOWN_ON | PULSE_MODE;
+const OFF: u8 = BY_COUNTDOWN;
 
 pub fn scripts() -> Vec<Script> {
     vec![
-        shortest_source(),
-        second_source(),
+        short_sources(),
         whole_seconds(),
         whole_minutes(),
         stopped_and_resumed(),
-        prescaler_cleared_by_ctr3(),
-        prescaler_cleared_by_the_count(),
-        reload_zero(),
-        locked_writes(),
+        prescaler_cleared(),
         pulse_mode(),
         pulse_renewed_as_it_ends(),
         pulse_renewed_too_late(),
     ]
 }
 
-const LEVEL: u8 = BY_COUNTDOWN | COUNTDOWN_ON;
-const PULSE: u8 = BY_COUNTDOWN | COUNTDOWN_ON | PULSE_MODE;
-
 /// Unlocked with the count set; the countdown starts at once if enabled.
 fn countdown(controls: u8, tds: u8, count: u8) -> Script {
     Script::at(NEW_CENTURY).unlock_with(&[controls, tds << 4, 0x00, count])
 }
 
-fn shortest_source() -> Script {
+/// Fires, reloads one tick later, and fires again; then with longer ticks.
+/// The alarm's enable has no hold on this flag.
+fn short_sources() -> Script {
     countdown(LEVEL, 0, 3)
         .pulses_shown(24)
+        .store(0x0E, &[0x01])
         .store(0x0F, &[CLEAR_FLAGS])
-        .pulses(7)
-        .fetch(0x13, 1)
+        .pulses_shown(8)
+        .fetching(0x13)
+        .pulses(8)
+        .read(1)
+        .stop()
+        .pulses_shown(16)
+        .storing(0x0F, &[CLEAR_FLAGS, LEVEL, 0x10, 0x00, 0x02])
+        .pulses(1_023)
         .pulses(1)
-        .fetch(0x13, 1)
-        .pulses_shown(24)
-}
-
-fn second_source() -> Script {
-    countdown(LEVEL, 1, 2)
-        .pulses_shown(512)
-        .pulses_shown(512)
         .store(0x0F, &[CLEAR_FLAGS])
-        .pulses_shown(1_536)
+        .pulses(1_535)
+        .pulses(1)
 }
 
 /// The countdown takes no part in the trimming.
@@ -67,92 +68,64 @@ fn whole_minutes() -> Script {
         .pulses_shown(1_966_080 - 524_288)
 }
 
-/// Off and on again it goes on from the same pulse and the same count.
+/// Off and on again it goes on from the same pulse and the same count; the
+/// level does not mind the switch. The seconds do not touch the prescaler, but
+/// 11h clears it, also while off.
 fn stopped_and_resumed() -> Script {
     countdown(LEVEL, 0, 2)
         .pulses(13)
-        .store(0x10, &[BY_COUNTDOWN])
+        .storing(0x00, &[0x00])
+        .storing(0x10, &[OFF])
         .pulses(100)
-        .fetch(0x13, 1)
         .store(0x10, &[LEVEL])
-        .pulses_shown(3)
-        .store(0x10, &[BY_COUNTDOWN])
-        .store(0x10, &[BY_NONE])
+        .pulses(2)
+        .pulses(1)
+        .pulses(15)
+        .storing(0x0F, &[CLEAR_FLAGS, OFF, 0x00])
+        .storing(0x10, &[LEVEL])
+        .pulses(15)
+        .pulses(1)
+        .storing(0x10, &[OFF])
 }
 
-fn prescaler_cleared_by_ctr3() -> Script {
+/// By 11h and by 13h, each just before a tick. The zero stops it for good.
+fn prescaler_cleared() -> Script {
     countdown(LEVEL, 0, 2)
         .pulses(15)
         .store(0x11, &[0x00])
-        .pulses_shown(8)
-        .store(0x0F, &[CLEAR_FLAGS])
         .pulses(7)
-        .store(0x10, &[BY_COUNTDOWN])
-        .store(0x11, &[0x10])
-        .store(0x10, &[LEVEL])
-        .pulses_shown(512)
-}
-
-fn prescaler_cleared_by_the_count() -> Script {
-    countdown(LEVEL, 0, 2)
-        .pulses(15)
-        .store(0x13, &[0x01])
-        .pulses_shown(8)
-        .store(0x0F, &[CLEAR_FLAGS])
-        .pulses(6)
-        .store(0x10, &[BY_COUNTDOWN])
-        .store(0x13, &[0x01])
-        .store(0x10, &[LEVEL])
-        .pulses_shown(8)
-}
-
-/// Never fires, also when the zero is written while it runs.
-fn reload_zero() -> Script {
-    countdown(LEVEL, 0, 0)
-        .pulses(100)
-        .store(0x13, &[0x01])
-        .pulses(8)
-        .store(0x13, &[0x00])
-        .pulses(100)
-        .store(0x0F, &[CLEAR_FLAGS])
-        .pulses(100)
-        .show()
-}
-
-fn locked_writes() -> Script {
-    countdown(LEVEL, 0, 2)
+        .pulses(1)
+        .storing(0x0F, &[CLEAR_FLAGS])
         .pulses(7)
-        .store(0x0F, &[0x00])
-        .store(0x11, &[0x30, 0x11, 0x09])
-        .pulses_shown(9)
+        .store(0x13, &[0x01])
+        .pulses(7)
+        .pulses(1)
+        .storing(0x13, &[0x00])
+        .store(0x0F, &[CLEAR_FLAGS])
+        .pulses(100)
 }
 
+/// Cleared flag and switched-off countdown leave the pulse running.
 fn pulse_mode() -> Script {
     countdown(PULSE, 1, 1)
-        .pulses_shown(512)
-        .store(0x13, &[0x00])
-        .store(0x0F, &[CLEAR_FLAGS])
-        .pulses(4_000)
-        .store(0x10, &[BY_COUNTDOWN | PULSE_MODE])
-        .pulses(4_000)
-        .store(0x10, &[PULSE])
+        .pulses(511)
+        .pulses(1)
+        .storing(0x0F, &[CLEAR_FLAGS])
+        .storing(0x10, &[OFF | PULSE_MODE])
+        .pulses(8_000)
+        .storing(0x13, &[0x00])
+        .storing(0x10, &[PULSE])
         .pulses(191)
         .pulses(1)
-        .show()
 }
 
 /// Sixteen ticks of 512 are just the length of a pulse: no gap is seen.
 fn pulse_renewed_as_it_ends() -> Script {
     countdown(PULSE, 1, 15)
-        .pulses(7_679)
-        .pulses(1)
+        .pulses(7_680)
         .pulses(8_191)
         .pulses(1)
-        .pulses(1)
-        .show()
-        .pulses(8_190)
-        .pulses(1)
-        .show()
+        .pulses(8_191)
 }
 
 /// One tick more leaves a gap of 512; the flag is set all the while.
@@ -163,5 +136,4 @@ fn pulse_renewed_too_late() -> Script {
         .pulses(1)
         .pulses(511)
         .pulses(1)
-        .show()
 }

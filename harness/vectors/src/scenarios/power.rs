@@ -7,22 +7,15 @@ const TIME: [u8; 7] = [0x5A, 0x58, 0x31, 0x06, 0x28, 0x02, 0x24];
 
 pub fn scripts() -> Vec<Script> {
     vec![
-        at_once(),
-        within_a_transfer(),
+        within_a_read(),
         within_a_write(),
         after_settings(),
         second_and_divider(),
-        countdown_gone(),
     ]
 }
 
-fn at_once() -> Script {
-    Script::at(TIME).power_loss().fetch(0x00, 7)
-}
-
-fn within_a_transfer() -> Script {
+fn within_a_read() -> Script {
     Script::at(TIME)
-        .unlock()
         .fetching(0x0F)
         .read_on(2)
         .power_loss()
@@ -32,7 +25,6 @@ fn within_a_transfer() -> Script {
         .start()
         .write(&[0x65])
         .read(2)
-        .stop()
 }
 
 /// What was stored stays, what comes after is lost with the lock.
@@ -42,24 +34,22 @@ fn within_a_write() -> Script {
         .storing(0x14, &[0x81, 0x82])
         .power_loss()
         .write(&[0x83])
-        .store(0x14, &[0x84])
-        .unlock()
-        .store(0x14, &[0x85])
+        .storing(0x14, &[0x84])
 }
 
+/// Alarm, controls, trim, count, reload, prescaler and pulse are gone.
 fn after_settings() -> Script {
     let controls = BY_COUNTDOWN | COUNTDOWN_ON | ALARM_ON | PULSE_MODE;
     Script::at(TIME)
         .unlock_with(&[controls, 0x8F, 0x3F, 0x01])
-        .store(0x07, &[0x01, 0x02, 0x03, 0x04, 0x05, 0x06, 0x07, 0x7F])
-        .store(0x1E, &[0x91, 0x92, 0x44, 0x43])
-        .pulses(8)
+        .storing(0x0D, &[0x07, 0x7F])
+        .pulses(15)
         .power_loss()
-        .power_loss()
-        .pulses(16)
         .unlock_with(&[controls])
-        .pulses(16)
-        .show()
+        .pulses(100)
+        .storing(0x13, &[0x01])
+        .pulses(7)
+        .pulses(1)
 }
 
 /// Both begin again with the power.
@@ -71,22 +61,5 @@ fn second_and_divider() -> Script {
         .unlock_with(&[controls, 0x0A])
         .pulses(16_383)
         .pulses(1)
-        .pulses(16_383)
-        .show()
-        .pulses(1)
-        .show()
-}
-
-/// Count, reload and prescaler are gone.
-fn countdown_gone() -> Script {
-    let controls = BY_COUNTDOWN | COUNTDOWN_ON;
-    Script::at(TIME)
-        .unlock_with(&[controls, 0x00, 0x00, 0x02])
-        .pulses(7)
-        .power_loss()
-        .unlock_with(&[controls])
-        .pulses(100)
-        .store(0x13, &[0x01])
-        .pulses(7)
-        .pulses(1)
+        .pulses_shown(16_384)
 }

@@ -44,7 +44,6 @@ fn events() -> Script {
         .pulses(1)
         .event(2, 0, 0)
         .read(1)
-        .stop()
 }
 
 /// The registers are shown after it all the same, and once.
@@ -58,7 +57,7 @@ fn no_events() -> Script {
 
 /// Illegal as a time, but no fixed bit is set.
 fn odd_but_fine() -> Script {
-    Script::at([0x7F, 0x7F, 0xBF, 0x07, 0x3F, 0x1F, 0xFF]).fetch(0x00, 7)
+    Script::at([0x7F, 0x7F, 0xBF, 0x07, 0x3F, 0x1F, 0xFF])
 }
 
 /// One fixed bit in this time byte; the year has none and is fine.
@@ -66,15 +65,15 @@ fn fixed_time_bit(at: usize) -> Script {
     const FIXED: [u8; 7] = [0x80, 0x80, 0x40, 0x08, 0x40, 0x20, 0x00];
     let mut time = NEW_CENTURY;
     time[at] |= FIXED[at];
-    Script::at(time).start().write(&[0x65]).read(2).stop()
+    Script::at(time)
 }
 
 fn all_bits_set() -> Script {
-    Script::from_bytes([0xFF; 19]).fetch(0x1E, 4)
+    Script::from_bytes([0xFF; 19]).fetch(0x1E, 3)
 }
 
 fn only_ram_full() -> Script {
     let mut bytes = [0xFF; 19];
     bytes[..7].copy_from_slice(&NEW_CENTURY);
-    Script::from_bytes(bytes).fetch(0x1E, 4)
+    Script::from_bytes(bytes).fetch(0x1E, 3)
 }

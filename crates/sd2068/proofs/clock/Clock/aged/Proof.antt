@@ -1,0 +1,13 @@
+-- The bus alone moves. Assumes nothing.
+use borrow.Author.Needs.{needs}
+use Rattle.sd2068.proofs.clock.Clock.aged.Statement.{statement}
+use Rattle.sd2068.proofs.clock.Clock.aged.Tie as tie
+
+older-requires : tie.Need-older-requires
+older-requires c κs = search needs
+
+returns : tie.Need-returns
+returns c = simp (c .older .ensures)
+
+pub aged-spec : {M : Type 1} → statement M
+aged-spec = tie.close (tie.spec older-requires returns)

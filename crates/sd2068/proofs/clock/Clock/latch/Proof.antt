@@ -1,0 +1,13 @@
+-- The latch alone moves. Assumes nothing.
+use borrow.Author.Needs.{needs}
+use Rattle.sd2068.proofs.clock.Clock.latch.Statement.{statement}
+use Rattle.sd2068.proofs.clock.Clock.latch.Tie as tie
+
+bytes-requires : tie.Need-bytes-requires
+bytes-requires c κs = search needs
+
+returns : tie.Need-returns
+returns c = simp (c .bytes .ensures)
+
+pub latch-spec : {M : Type 1} → statement M
+latch-spec = tie.close (tie.spec bytes-requires returns)

@@ -1,0 +1,60 @@
+-- The refusals are the definition's, in its order, and then the event. Assumes nothing.
+use mathlib.Core.Path.{sym, _∙_}
+use borrow.Author.Tests.{lt-ltb, le-ltb, not-true, not-false}
+use Rattle.sd2068.specs.Step.{refusalOf, stepOf}
+use borrow.Author.Needs.{needs}
+use Rattle.sd2068.proofs.clock.Clock.step.Statement.{statement}
+use Rattle.sd2068.proofs.clock.Clock.step.Tie as tie
+
+well-formed-requires : tie.Need-well-formed-requires
+well-formed-requires c κs = search needs
+
+refused-requires : tie.Need-refused-requires
+refused-requires c κs = search needs
+
+returns : tie.Need-returns
+unfolding stepOf refusalOf
+returns c = simp (c .refused .ensures, sym (c .before .before .well-formed .ensures) ∙ not-true _ (c .before .if1 .taken))
+
+fields-requires : tie.Need-fields-requires
+fields-requires c κs = search needs
+
+event-requires : tie.Need-event-requires
+event-requires c κs = search needs
+
+told-requires : tie.Need-told-requires
+told-requires c κs = search needs
+
+refused-requires-2 : tie.Need-refused-requires-2
+refused-requires-2 c κs = search needs
+
+refused-requires-3 : tie.Need-refused-requires-3
+refused-requires-3 c κs = search needs
+
+returns-2 : tie.Need-returns-2
+unfolding stepOf refusalOf
+returns-2 c = simp (c .told .ensures, c .before .event .ensures, sym (c .before .before .before .before .before .before .well-formed .ensures) ∙ not-false _ (c .before .before .before .before .before .if1 .left), lt-ltb _ _ (c .before .before .before .before .if2 .taken), sym (c .before .before .before .fields .ensures) ∙ c .before .before .if3 .taken)
+
+returns-3 : tie.Need-returns-3
+unfolding stepOf refusalOf
+returns-3 c = simp (c .refused2 .ensures, sym (c .before .before .before .before .before .well-formed .ensures) ∙ not-false _ (c .before .before .before .before .if1 .left), lt-ltb _ _ (c .before .before .before .if2 .taken), sym (c .before .before .fields .ensures) ∙ c .before .if3 .left)
+
+returns-4 : tie.Need-returns-4
+unfolding stepOf refusalOf
+returns-4 c = simp (c .refused3 .ensures, sym (c .before .before .before .well-formed .ensures) ∙ not-false _ (c .before .before .if1 .left), le-ltb _ _ (c .before .if2 .left))
+
+pub step-spec : {M : Type 1} → statement M
+step-spec =
+    tie.close
+    (tie.spec
+    well-formed-requires
+    refused-requires
+    returns
+    fields-requires
+    event-requires
+    told-requires
+    refused-requires-2
+    refused-requires-3
+    returns-2
+    returns-3
+    returns-4)

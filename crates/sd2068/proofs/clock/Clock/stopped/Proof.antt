@@ -1,0 +1,18 @@
+-- Both flags go by the same test. Assumes nothing.
+use Rattle.sd2068.specs.Transfer.{stoppedOf}
+use borrow.Author.Needs.{needs}
+use Rattle.sd2068.proofs.clock.Clock.stopped.Statement.{statement}
+use Rattle.sd2068.proofs.clock.Clock.stopped.Tie as tie
+
+arst-requires : tie.Need-arst-requires
+arst-requires c κs = search needs
+
+marked-requires : tie.Need-marked-requires
+marked-requires c κs = search needs
+
+returns : tie.Need-returns
+unfolding stoppedOf
+returns c = simp (c .before .before .before .before .marked .ensures, c .before .before .before .before .before .arst .ensures)
+
+pub stopped-spec : {M : Type 1} → statement M
+stopped-spec = tie.close (tie.spec arst-requires marked-requires returns)

@@ -1,0 +1,10 @@
+pub mod Clock
+pub mod Power
+pub mod Reading
+pub mod Writing
+pub mod Pulse
+pub mod Pin
+pub mod Answers
+pub mod Transfer
+pub mod WellFormed
+pub mod Step

@@ -1,0 +1,46 @@
+-- One pulse, in its order: transfer age, divider, pin pulses, countdown, calendar, alarm. (rules 4.5 to 4.7)
+use mathlib.Core.Bool.{_&&_}
+use Prim.Native.Nat.{ℕ, _+_, _%_}
+use lib.Dec.{eqb}
+use Rattle.calendar.specs.Repeat.{times}
+use Rattle.hand.specs.Hand.{tickedOf}
+use Rattle.alarm.specs.Alarm as alarm
+use Rattle.countdown.specs.Countdown as countdown
+use Rattle.control.specs.Control.{tdsOf}
+use Rattle.bus.specs.Bus.{olderOf}
+use Rattle.sd2068.specs.declared.clock.Clock.{Clock}
+use Rattle.sd2068.specs.Clock.{withHand, withAlarm, withCountdown, withDivider, withBus}
+
+-- transfer age
+abbrev pub agedOf : Clock → Clock
+agedOf c = withBus c (olderOf (c .bus) 1)
+
+-- the free divider: 524,287 is followed by 0
+abbrev pub turnedOverOf : ℕ → ℕ
+turnedOverOf divider = (divider + 1) % 524288
+
+abbrev pub dividedOf : Clock → Clock
+dividedOf c = withDivider c (turnedOverOf (c .divider))
+
+-- pin pulses
+abbrev pub pinPulsedOf : Clock → Clock
+pinPulsedOf c = withCountdown (withAlarm c (alarm.lessenedOf (c .alarm) 1)) (countdown.lessenedOf (c .countdown) 1)
+
+-- countdown
+abbrev pub countedOf : Clock → Clock
+countedOf c = withCountdown c (countdown.countedOf (c .countdown) (c .control .intde) (tdsOf (c .control)))
+
+-- calendar
+abbrev pub tickedClockOf : Clock → Clock
+tickedClockOf c = withHand c (tickedOf (c .hand))
+
+-- alarm: the second counter is 0 right after the time advanced, and only then
+abbrev pub rungOf : Clock → Clock
+rungOf c = withAlarm c (alarm.rungOf (c .alarm) (c .hand .time) (eqb (c .hand .counter) 0 && c .control .intae))
+
+unfoldable pub pulseOf : Clock → Clock
+pulseOf c = rungOf (tickedClockOf (countedOf (pinPulsedOf (dividedOf (agedOf c)))))
+
+-- n pulses
+abbrev pub pulsesOf : Clock → ℕ → Clock
+pulsesOf c n = times pulseOf n c

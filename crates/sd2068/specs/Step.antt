@@ -1,0 +1,66 @@
+-- The single step: refusals 1, 2, 3 in this order, then the event. (rules 8.1 and 8.3)
+use mathlib.Core.Bool.{Bool, true, false, cond, _&&_, not}
+use mathlib.Core.List.{List}
+use Prim.Native.Nat.{ℕ}
+use lib.Dec.{eqb, ltb}
+use Rattle.control.specs.Pin.{letterOf}
+use Rattle.sd2068.specs.declared.clock.Clock.{Clock}
+use Rattle.sd2068.specs.declared.answers.Answer.the-variants.{Quiet}
+use Rattle.sd2068.specs.declared.answers.Answered.{Answered}
+use Rattle.sd2068.specs.declared.answers.Stepped.{Stepped}
+use Rattle.sd2068.specs.declared.answers.Started.{Started}
+use Rattle.sd2068.specs.Power.{Power, lostOf}
+use Rattle.sd2068.specs.Pulse.{pulsesOf}
+use Rattle.sd2068.specs.Pin.{pinOf}
+use Rattle.sd2068.specs.Answers.{textOf, numberOf}
+use Rattle.sd2068.specs.Transfer.{startedClockOf, stoppedOf, byteOf, readOf}
+use Rattle.sd2068.specs.WellFormed.{wellFormedOf}
+
+-- an event that is not answered
+abbrev pub quiet : Clock → Answered
+quiet c = record { clock = c; answer = Quiet }
+
+-- 0 START, 1 STOP, 2 master byte, 3 read with ACK, 4 read with NAK, 5 pulses, 6 power loss
+unfoldable pub eventOf : Clock → ℕ → ℕ → ℕ → Answered
+eventOf c kind byte count =
+    cond (eqb kind 0) (quiet (startedClockOf c))
+    (cond (eqb kind 1) (quiet (stoppedOf c))
+    (cond (eqb kind 2) (byteOf c byte)
+    (cond (eqb kind 3) (readOf c true)
+    (cond (eqb kind 4) (readOf c false)
+    (cond (eqb kind 5) (quiet (pulsesOf c count))
+    (quiet (lostOf c)))))))
+
+-- only kind 2 uses the byte and only 5 the count, which is not 0; an unused field is 0
+abbrev pub fieldsOf : ℕ → ℕ → ℕ → Bool
+fieldsOf kind byte count =
+    cond (eqb kind 2) (eqb count 0)
+    (cond (eqb kind 5) (eqb byte 0 && not (eqb count 0))
+    (eqb byte 0 && eqb count 0))
+
+-- the number of the refusal; 0 is none
+unfoldable pub refusalOf : Clock → ℕ → ℕ → ℕ → ℕ
+refusalOf c kind byte count =
+    cond (wellFormedOf c) (cond (ltb kind 7) (cond (fieldsOf kind byte count) 0 3) 2) 1
+
+-- what a step says: refusal, state, answer, pin
+pub record Told : Type 0 where
+  pub refusal : ℕ
+  pub state : Clock
+  pub answer : List ℕ
+  pub pin : ℕ
+
+abbrev pub toldOf : ℕ → Answered → Told
+toldOf n e = record { refusal = n; state = e .clock; answer = textOf (e .answer); pin = pinOf (e .clock) }
+
+-- refused, the same state comes back
+unfoldable pub stepOf : Clock → ℕ → ℕ → ℕ → Told
+stepOf c kind byte count =
+    toldOf (refusalOf c kind byte count) (cond (eqb (refusalOf c kind byte count) 0) (eventOf c kind byte count) (quiet c))
+
+-- what the answers of the two entries say
+abbrev pub stepped : Stepped → Told
+stepped r = record { refusal = numberOf (r .refusal); state = r .clock; answer = textOf (r .answer); pin = letterOf (r .pin) }
+
+abbrev pub started : Started → Power
+started r = record { refusal = numberOf (r .refusal); state = r .clock }

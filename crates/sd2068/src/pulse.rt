@@ -1,0 +1,84 @@
+// One pulse, stage by stage. (rules 4.5 to 4.7)
+use crate::clock::Clock;
+ghost use mathlib.Core.Path.{_≡_};
+ghost use Rattle.sd2068.specs.Pulse.{agedOf, turnedOverOf, dividedOf, pinPulsedOf, countedOf, tickedClockOf, rungOf, pulseOf, pulsesOf};
+
+// The free divider: 524,287 is followed by 0. (rule 4.6)
+fn turned_over(divider: u32) -> u32
+    ensures { λ r. ⌜ r ≡ turnedOverOf divider ⌝ }
+{
+    ((divider as u64 + 1) % 524288) as u32
+}
+
+impl Clock {
+    // Transfer age. (rule 6.12)
+    fn aged(mut self) -> Clock
+        ensures { λ r. ⌜ r ≡ agedOf self ⌝ }
+    {
+        self.bus = self.bus.older(1);
+        self
+    }
+
+    // The free divider. (rule 4.6)
+    fn divided(mut self) -> Clock
+        ensures { λ r. ⌜ r ≡ dividedOf self ⌝ }
+    {
+        self.divider = turned_over(self.divider);
+        self
+    }
+
+    // Pin pulses. (rule 5.6)
+    fn pin_pulsed(mut self) -> Clock
+        ensures { λ r. ⌜ r ≡ pinPulsedOf self ⌝ }
+    {
+        self.alarm = self.alarm.lessened(1);
+        self.countdown = self.countdown.lessened(1);
+        self
+    }
+
+    // Countdown. (rules 5.7 to 5.9)
+    fn counted(mut self) -> Clock
+        ensures { λ r. ⌜ r ≡ countedOf self ⌝ }
+    {
+        let tds = self.control.tds();
+        self.countdown = self.countdown.counted(self.control.intde, tds);
+        self
+    }
+
+    // Calendar. (rule 4.1)
+    fn ticked(mut self) -> Clock
+        ensures { λ r. ⌜ r ≡ tickedClockOf self ⌝ }
+    {
+        self.hand = self.hand.ticked();
+        self
+    }
+
+    // Alarm: the second counter is 0 right after the time advanced, and only then. (rule 5.1)
+    fn rung(mut self) -> Clock
+        ensures { λ r. ⌜ r ≡ rungOf self ⌝ }
+    {
+        let asked = (self.hand.counter == 0) & self.control.intae;
+        self.alarm = self.alarm.rung(self.hand.time, asked);
+        self
+    }
+
+    // One pulse, in this order. (rule 4.5)
+    fn pulse(self) -> Clock
+        ensures { λ r. ⌜ r ≡ pulseOf self ⌝ }
+    {
+        self.aged().divided().pin_pulsed().counted().ticked().rung()
+    }
+
+    // n pulses. (rule 4.7)
+    pub(crate) fn pulses(self, n: u16) -> Clock
+        ensures { λ r. ⌜ r ≡ pulsesOf self n ⌝ }
+    {
+        let mut c = self;
+        let mut i = 0;
+        while i < n {
+            c = c.pulse();
+            i = i + 1;
+        }
+        c
+    }
+}

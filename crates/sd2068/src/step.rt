@@ -1,0 +1,87 @@
+// The single step. (rules 8.1 and 8.3)
+use crate::answers::Answer;
+use crate::answers::Answered;
+use crate::answers::Refusal;
+use crate::answers::Stepped;
+use crate::clock::Clock;
+ghost use mathlib.Core.Path.{_≡_};
+ghost use Rattle.sd2068.specs.Answers.{numberOf};
+ghost use Rattle.sd2068.specs.Step.{quiet, eventOf, fieldsOf, toldOf, stepped, stepOf};
+
+// Whether unused fields are 0 and pulses are not. (rule 8.3)
+fn fields(kind: u8, byte: u8, count: u16) -> bool
+    ensures { λ r. ⌜ r ≡ fieldsOf kind byte count ⌝ }
+{
+    match kind {
+        2 => count == 0,
+        5 => (byte == 0) & (count != 0),
+        _ => (byte == 0) & (count == 0),
+    }
+}
+
+impl Clock {
+    // An event that is not answered.
+    fn quiet(self) -> Answered
+        ensures { λ r. ⌜ r ≡ quiet self ⌝ }
+    {
+        Answered {
+            clock: self,
+            answer: Answer::Quiet,
+        }
+    }
+
+    // An event of any kind up to 6. (rule 8.1)
+    fn event(self, kind: u8, byte: u8, count: u16) -> Answered
+        ensures { λ r. ⌜ r ≡ eventOf self kind byte count ⌝ }
+    {
+        match kind {
+            0 => self.started().quiet(),
+            1 => self.stopped().quiet(),
+            2 => self.byte(byte),
+            3 => self.read(true),
+            4 => self.read(false),
+            5 => self.pulses(count).quiet(),
+            _ => self.lost().quiet(),
+        }
+    }
+
+    // Refused, the same state comes back. (rule 8.3)
+    fn refused(self, refusal: Refusal) -> Stepped
+        ensures { λ r. ⌜ stepped r ≡ toldOf (numberOf refusal) (quiet self) ⌝ }
+    {
+        told(refusal, self.quiet())
+    }
+
+    // Any event on any state. (rule 8.3)
+    pub fn step(self, kind: u8, byte: u8, count: u16) -> Stepped
+        ensures { λ r. ⌜ stepped r ≡ stepOf self kind byte count ⌝ }
+    {
+        if !self.well_formed() {
+            return self.refused(Refusal::State);
+        }
+        match kind {
+            0..=6 => {
+                if fields(kind, byte, count) {
+                    told(Refusal::None, self.event(kind, byte, count))
+                } else {
+                    self.refused(Refusal::Field)
+                }
+            }
+            _ => self.refused(Refusal::Kind),
+        }
+    }
+}
+
+// An event's answer with the pin that it leaves. (rule 8.1)
+fn told(refusal: Refusal, e: Answered) -> Stepped
+    ensures { λ r. ⌜ stepped r ≡ toldOf (numberOf refusal) e ⌝ }
+{
+    let clock = e.clock;
+    let answer = e.answer;
+    Stepped {
+        refusal,
+        clock,
+        answer,
+        pin: clock.pin(),
+    }
+}
