@@ -1,4 +1,4 @@
-// The hand: nothing but a pulse, a stored byte and power moves it. (rules 4.1, 4.4, 2.6 and 2.7)
+// The hand: nothing but a pulse, a stored byte and power moves it. (rules 4.1, 4.4, 2.7 and 8.2)
 use crate::trim::length;
 use calendar::Time;
 use registers::clear;

@@ -1,4 +1,4 @@
--- Counters that return to 0 at a limit, and those that run down. (rules 4.1 and 5.9)
+-- Counters that return to 0 at a limit, and those that run down. (rules 4.1, 5.6 and 5.7)
 use mathlib.Core.Bool.{Bool, cond}
 use Prim.Native.Nat.{ℕ, _+_, _-_}
 use lib.Dec.{leb}

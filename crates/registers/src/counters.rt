@@ -1,4 +1,4 @@
-// Counters that return to 0 at a limit, and those that run down. (rules 4.1 and 5.9)
+// Counters that return to 0 at a limit, and those that run down. (rules 4.1, 5.6 and 5.7)
 ghost use mathlib.Core.Path.{_≡_};
 ghost use Rattle.fields.specs.Digits.{pickOf};
 ghost use Rattle.registers.specs.Counters.{reachedOf, turnedOf, lessOf};

@@ -1,4 +1,4 @@
--- Power-on and power loss. (rules 2.9 to 2.12 and 8.4)
+-- Power-on and power loss. (rules 2.9 to 2.11 and 8.4)
 use mathlib.Core.Bool.{true, false, cond}
 use mathlib.Core.List.{List, [], _∷_}
 use Prim.Native.Nat.{ℕ}

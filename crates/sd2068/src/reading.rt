@@ -1,4 +1,4 @@
-// The 32 registers as they stand, and as the bus sees them. (rules 2.1 to 2.6, 2.13 and 6.7)
+// The 32 registers as they stand, and as the bus sees them. (rules 2.1 to 2.6, 2.12 and 6.7)
 use crate::clock::Clock;
 use control::ctr1;
 use control::ctr2;
@@ -7,7 +7,7 @@ ghost use mathlib.Core.Path.{_≡_};
 ghost use Rattle.sd2068.specs.Reading.{controlAtOf, registerOf, shownOf, registersOf};
 
 impl Clock {
-    // Any register as it stands; an address over 1Fh has none and shows FFh. (rule 2.13)
+    // Any register as it stands; an address over 1Fh has none and shows FFh. (rule 2.12)
     pub fn register(self, a: u8) -> u8
         ensures { λ r. ⌜ r ≡ registerOf self a ⌝ }
     {
@@ -52,7 +52,7 @@ impl Clock {
         }
     }
 
-    // All 32 as they stand. (rule 2.13)
+    // All 32 as they stand. (rule 2.12)
     pub fn registers(self) -> [u8; 32]
         ensures { λ r. ⌜ r ≡ registersOf self ⌝ }
     {
