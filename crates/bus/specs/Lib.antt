@@ -1,1 +1,3 @@
-pub mod Bus
+pub mod Phase
+pub mod Bytes
+pub mod Reads

@@ -5,7 +5,7 @@ use Rattle.hand.specs.declared.hand.Hand.{Hand}
 use Rattle.alarm.specs.declared.alarm.Alarm.{Alarm}
 use Rattle.countdown.specs.declared.Countdown.{Countdown}
 use Rattle.control.specs.declared.lock.Lock.{Lock}
-use Rattle.bus.specs.declared.Bus.{Bus}
+use Rattle.bus.specs.declared.phase.Bus.{Bus}
 use Rattle.sd2068.specs.declared.clock.Clock.{Clock}
 
 abbrev pub withHand : Clock → Hand → Clock

@@ -9,7 +9,7 @@ use Rattle.alarm.specs.declared.alarm.Alarm.{Alarm}
 use Rattle.countdown.specs.declared.Countdown.{Countdown}
 use Rattle.control.specs.declared.control.Control.{Control}
 use Rattle.registers.specs.Fixed.{clearTimeOf}
-use Rattle.bus.specs.Bus.{closedBus}
+use Rattle.bus.specs.Phase.{closedBus}
 use Rattle.sd2068.specs.declared.clock.Clock.{Clock}
 
 abbrev pub zeroTime : Time

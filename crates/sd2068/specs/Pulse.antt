@@ -7,7 +7,7 @@ use Rattle.hand.specs.Hand.{tickedOf}
 use Rattle.alarm.specs.Alarm as alarm
 use Rattle.countdown.specs.Countdown as countdown
 use Rattle.control.specs.Control.{tdsOf}
-use Rattle.bus.specs.Bus.{olderOf}
+use Rattle.bus.specs.Phase.{olderOf}
 use Rattle.sd2068.specs.declared.clock.Clock.{Clock}
 use Rattle.sd2068.specs.Clock.{withHand, withAlarm, withCountdown, withDivider, withBus}
 
@@ -31,15 +31,15 @@ abbrev pub countedOf : Clock → Clock
 countedOf c = withCountdown c (countdown.countedOf (c .countdown) (c .control .intde) (tdsOf (c .control)))
 
 -- calendar
-abbrev pub tickedClockOf : Clock → Clock
-tickedClockOf c = withHand c (tickedOf (c .hand))
+abbrev pub advancedOf : Clock → Clock
+advancedOf c = withHand c (tickedOf (c .hand))
 
 -- alarm: the second counter is 0 right after the time advanced, and only then
 abbrev pub rungOf : Clock → Clock
 rungOf c = withAlarm c (alarm.rungOf (c .alarm) (c .hand .time) (eqb (c .hand .counter) 0 && c .control .intae))
 
 unfoldable pub pulseOf : Clock → Clock
-pulseOf c = rungOf (tickedClockOf (countedOf (pinPulsedOf (dividedOf (agedOf c)))))
+pulseOf c = rungOf (advancedOf (countedOf (pinPulsedOf (dividedOf (agedOf c)))))
 
 -- n pulses
 abbrev pub pulsesOf : Clock → ℕ → Clock

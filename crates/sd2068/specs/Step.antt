@@ -13,23 +13,23 @@ use Rattle.sd2068.specs.Power.{Power, lostOf}
 use Rattle.sd2068.specs.Pulse.{pulsesOf}
 use Rattle.sd2068.specs.Pin.{pinOf}
 use Rattle.sd2068.specs.Answers.{textOf, numberOf}
-use Rattle.sd2068.specs.Transfer.{startedClockOf, stoppedOf, byteOf, readOf}
+use Rattle.sd2068.specs.Transfer.{startedOf, stoppedOf, byteOf, readOf}
 use Rattle.sd2068.specs.WellFormed.{wellFormedOf}
 
 -- an event that is not answered
-abbrev pub quiet : Clock → Answered
-quiet c = record { clock = c; answer = Quiet }
+abbrev pub quietOf : Clock → Answered
+quietOf c = record { clock = c; answer = Quiet }
 
 -- 0 START, 1 STOP, 2 master byte, 3 read with ACK, 4 read with NAK, 5 pulses, 6 power loss
 unfoldable pub eventOf : Clock → ℕ → ℕ → ℕ → Answered
 eventOf c kind byte count =
-    cond (eqb kind 0) (quiet (startedClockOf c))
-    (cond (eqb kind 1) (quiet (stoppedOf c))
+    cond (eqb kind 0) (quietOf (startedOf c))
+    (cond (eqb kind 1) (quietOf (stoppedOf c))
     (cond (eqb kind 2) (byteOf c byte)
     (cond (eqb kind 3) (readOf c true)
     (cond (eqb kind 4) (readOf c false)
-    (cond (eqb kind 5) (quiet (pulsesOf c count))
-    (quiet (lostOf c)))))))
+    (cond (eqb kind 5) (quietOf (pulsesOf c count))
+    (quietOf (lostOf c)))))))
 
 -- only kind 2 uses the byte and only 5 the count, which is not 0; an unused field is 0
 abbrev pub fieldsOf : ℕ → ℕ → ℕ → Bool
@@ -56,7 +56,7 @@ toldOf n e = record { refusal = n; state = e .clock; answer = textOf (e .answer)
 -- refused, the same state comes back
 unfoldable pub stepOf : Clock → ℕ → ℕ → ℕ → Told
 stepOf c kind byte count =
-    toldOf (refusalOf c kind byte count) (cond (eqb (refusalOf c kind byte count) 0) (eventOf c kind byte count) (quiet c))
+    toldOf (refusalOf c kind byte count) (cond (eqb (refusalOf c kind byte count) 0) (eventOf c kind byte count) (quietOf c))
 
 -- what the answers of the two entries say
 abbrev pub stepped : Stepped → Told

@@ -9,7 +9,7 @@ use Rattle.alarm.specs.Alarm as alarm
 use Rattle.countdown.specs.Countdown as countdown
 use Rattle.control.specs.Lock as lock
 use Rattle.control.specs.Control as control
-use Rattle.bus.specs.Bus as bus
+use Rattle.bus.specs.Phase as bus
 use Rattle.sd2068.specs.declared.clock.Clock.{Clock}
 use Rattle.sd2068.specs.Power.{startTime}
 

@@ -1,7 +1,7 @@
 // One pulse, stage by stage. (rules 4.5 to 4.7)
 use crate::clock::Clock;
 ghost use mathlib.Core.Path.{_≡_};
-ghost use Rattle.sd2068.specs.Pulse.{agedOf, turnedOverOf, dividedOf, pinPulsedOf, countedOf, tickedClockOf, rungOf, pulseOf, pulsesOf};
+ghost use Rattle.sd2068.specs.Pulse.{agedOf, turnedOverOf, dividedOf, pinPulsedOf, countedOf, advancedOf, rungOf, pulseOf, pulsesOf};
 
 // The free divider: 524,287 is followed by 0. (rule 4.6)
 fn turned_over(divider: u32) -> u32
@@ -47,7 +47,7 @@ impl Clock {
 
     // Calendar. (rule 4.1)
     fn ticked(mut self) -> Clock
-        ensures { λ r. ⌜ r ≡ tickedClockOf self ⌝ }
+        ensures { λ r. ⌜ r ≡ advancedOf self ⌝ }
     {
         self.hand = self.hand.ticked();
         self

@@ -6,7 +6,7 @@ use crate::answers::Stepped;
 use crate::clock::Clock;
 ghost use mathlib.Core.Path.{_≡_};
 ghost use Rattle.sd2068.specs.Answers.{numberOf};
-ghost use Rattle.sd2068.specs.Step.{quiet, eventOf, fieldsOf, toldOf, stepped, stepOf};
+ghost use Rattle.sd2068.specs.Step.{quietOf, eventOf, fieldsOf, toldOf, stepped, stepOf};
 
 // Whether unused fields are 0 and pulses are not. (rule 8.3)
 fn fields(kind: u8, byte: u8, count: u16) -> bool
@@ -19,37 +19,37 @@ fn fields(kind: u8, byte: u8, count: u16) -> bool
     }
 }
 
-impl Clock {
-    // An event that is not answered.
-    fn quiet(self) -> Answered
-        ensures { λ r. ⌜ r ≡ quiet self ⌝ }
-    {
-        Answered {
-            clock: self,
-            answer: Answer::Quiet,
-        }
+// An event that is not answered.
+fn quiet(clock: Clock) -> Answered
+    ensures { λ r. ⌜ r ≡ quietOf clock ⌝ }
+{
+    Answered {
+        clock,
+        answer: Answer::Quiet,
     }
+}
 
+impl Clock {
     // An event of any kind up to 6. (rule 8.1)
     fn event(self, kind: u8, byte: u8, count: u16) -> Answered
         ensures { λ r. ⌜ r ≡ eventOf self kind byte count ⌝ }
     {
         match kind {
-            0 => self.started().quiet(),
-            1 => self.stopped().quiet(),
+            0 => quiet(self.started()),
+            1 => quiet(self.stopped()),
             2 => self.byte(byte),
             3 => self.read(true),
             4 => self.read(false),
-            5 => self.pulses(count).quiet(),
-            _ => self.lost().quiet(),
+            5 => quiet(self.pulses(count)),
+            _ => quiet(self.lost()),
         }
     }
 
     // Refused, the same state comes back. (rule 8.3)
     fn refused(self, refusal: Refusal) -> Stepped
-        ensures { λ r. ⌜ stepped r ≡ toldOf (numberOf refusal) (quiet self) ⌝ }
+        ensures { λ r. ⌜ stepped r ≡ toldOf (numberOf refusal) (quietOf self) ⌝ }
     {
-        told(refusal, self.quiet())
+        told(refusal, quiet(self))
     }
 
     // Any event on any state. (rule 8.3)

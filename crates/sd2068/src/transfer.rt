@@ -3,19 +3,25 @@ use crate::answers::Answer;
 use crate::answers::Answered;
 use crate::clock::Clock;
 use bus::Bus;
-use bus::Mode;
+use bus::Effect;
 use bus::Phase;
-use bus::Transfer;
+use bus::Sent;
 use bus::next;
-use bus::read_at;
 use registers::bytes;
 ghost use mathlib.Core.Path.{_≡_};
-ghost use Rattle.sd2068.specs.Transfer.{startedClockOf, stoppedOf, inMode, latchedOf, addressedOf, pointedOf, dataOf, unheardOf, byteIn, byteOf, renewedOf, movedOf, unreadOf, readIn, readOf};
+ghost use Rattle.sd2068.specs.Transfer.{startedOf, stoppedOf, latchedOf, acknowledged, effectedBy, byteOf, renewedOf, readOf};
+
+// How a byte is acknowledged. (rules 6.3 to 6.6)
+fn acknowledge(ack: bool) -> Answer
+    ensures { λ r. ⌜ r ≡ acknowledged ack ⌝ }
+{
+    if ack { Answer::Ack } else { Answer::Nak }
+}
 
 impl Clock {
     // START. (rule 6.2)
     pub(crate) fn started(mut self) -> Clock
-        ensures { λ r. ⌜ r ≡ startedClockOf self ⌝ }
+        ensures { λ r. ⌜ r ≡ startedOf self ⌝ }
     {
         self.bus = self.bus.started();
         self
@@ -40,19 +46,7 @@ impl Clock {
         self
     }
 
-    // The open transfer goes on in another mode.
-    fn in_mode(mut self, mode: Mode, transfer: Transfer) -> Clock
-        ensures { λ r. ⌜ r ≡ inMode self mode transfer ⌝ }
-    {
-        let bus = Bus {
-            pointer: self.bus.pointer,
-            phase: Phase::Open(mode, transfer),
-        };
-        self.bus = bus;
-        self
-    }
-
-    // The seven bytes of the time, latched. (rule 6.3)
+    // The seven bytes of the time, latched. (rules 6.3 and 6.9)
     fn latch(mut self) -> Clock
         ensures { λ r. ⌜ r ≡ latchedOf self ⌝ }
     {
@@ -61,154 +55,60 @@ impl Clock {
         self
     }
 
-    // An address. (rule 6.3)
-    fn addressed(self, transfer: Transfer, b: u8) -> Answered
-        ensures { λ r. ⌜ r ≡ addressedOf self transfer b ⌝ }
+    // What a byte does beside the bus. (rules 6.3 and 6.5)
+    fn effected(self, effect: Effect, b: u8) -> Clock
+        ensures { λ r. ⌜ r ≡ effectedBy effect self b ⌝ }
     {
-        match b {
-            0x64 => Answered {
-                clock: self.in_mode(Mode::Pointer, transfer),
-                answer: Answer::Ack,
-            },
-            0x65 => Answered {
-                clock: self.in_mode(Mode::Reading, transfer).latch(),
-                answer: Answer::Ack,
-            },
-            _ => Answered {
-                clock: self.in_mode(Mode::Deaf, transfer),
-                answer: Answer::Nak,
-            },
+        match effect {
+            Effect::None => self,
+            Effect::Latch => self.latch(),
+            Effect::Write(a) => self.write(a, b),
         }
     }
 
-    // A pointer byte. (rule 6.4)
-    fn pointed(mut self, transfer: Transfer, b: u8) -> Answered
-        ensures { λ r. ⌜ r ≡ pointedOf self transfer b ⌝ }
-    {
-        match b {
-            0x00..=0x1F => {
-                let bus = Bus {
-                    pointer: b,
-                    phase: Phase::Open(Mode::Writing, transfer),
-                };
-                self.bus = bus;
-                Answered {
-                    clock: self,
-                    answer: Answer::Ack,
-                }
-            }
-            _ => Answered {
-                clock: self.in_mode(Mode::Deaf, transfer),
-                answer: Answer::Nak,
-            },
-        }
-    }
-
-    // A data byte: written at the pointer, which steps. (rule 6.5)
-    fn data(self, transfer: Transfer, b: u8) -> Answered
-        ensures { λ r. ⌜ r ≡ dataOf self transfer b ⌝ }
-    {
-        let pointer = self.bus.pointer;
-        let mut c = self.write(pointer, b);
-        let bus = Bus {
-            pointer: next(pointer),
-            phase: Phase::Open(Mode::Writing, transfer),
-        };
-        c.bus = bus;
-        Answered {
-            clock: c,
-            answer: Answer::Ack,
-        }
-    }
-
-    // A master byte. (rules 6.3 to 6.6)
+    // A master's byte. (rules 6.3 to 6.6)
     pub(crate) fn byte(self, b: u8) -> Answered
         ensures { λ r. ⌜ r ≡ byteOf self b ⌝ }
     {
-        let bus = self.bus;
-        let phase = bus.phase;
-        match phase {
-            Phase::Closed => self.unheard(),
-            Phase::Open(mode, transfer) => self.byte_in(mode, transfer, b),
-        }
-    }
-
-    // Where no byte is awaited it is not acknowledged. (rule 6.6)
-    fn unheard(self) -> Answered
-        ensures { λ r. ⌜ r ≡ unheardOf self ⌝ }
-    {
+        let heard = self.bus.heard(b);
+        let effect = heard.effect;
+        let bus = heard.bus;
+        let mut clock = self.effected(effect, b);
+        clock.bus = bus;
         Answered {
-            clock: self,
-            answer: Answer::Nak,
+            clock,
+            answer: acknowledge(heard.ack),
         }
     }
 
-    // A byte in an open transfer, by its mode. (rules 6.3 to 6.6)
-    fn byte_in(self, mode: Mode, transfer: Transfer, b: u8) -> Answered
-        ensures { λ r. ⌜ r ≡ byteIn mode self transfer b ⌝ }
+    // A read at a whose pointer goes on to 00h latches anew. (rule 6.9)
+    fn renewed(self, a: u8) -> Clock
+        ensures { λ r. ⌜ r ≡ renewedOf self a ⌝ }
     {
-        match mode {
-            Mode::Address => self.addressed(transfer, b),
-            Mode::Pointer => self.pointed(transfer, b),
-            Mode::Writing => self.data(transfer, b),
-            Mode::Reading => self.unheard(),
-            Mode::Deaf => self.unheard(),
-        }
-    }
-
-    // A read that wraps to 00h latches anew. (rule 6.9)
-    fn renewed(self) -> Clock
-        ensures { λ r. ⌜ r ≡ renewedOf self ⌝ }
-    {
-        let after = next(self.bus.pointer);
+        let after = next(a);
         if after == 0x00 { self.latch() } else { self }
     }
 
-    // What a read moves: pointer, mark, mode and latch. (rules 6.7 to 6.9)
-    fn moved(self, transfer: Transfer, ack: bool) -> Clock
-        ensures { λ r. ⌜ r ≡ movedOf self transfer ack ⌝ }
-    {
-        let pointer = self.bus.pointer;
-        let mut c = self.renewed();
-        c.bus = read_at(pointer, transfer, ack);
-        c
-    }
-
-    // A read. (rules 6.7 and 6.8)
+    // A read: the byte at the pointer, and then what moves. (rules 6.7 to 6.9)
     pub(crate) fn read(self, ack: bool) -> Answered
         ensures { λ r. ⌜ r ≡ readOf self ack ⌝ }
     {
-        let bus = self.bus;
-        let phase = bus.phase;
-        match phase {
-            Phase::Closed => self.unread(),
-            Phase::Open(mode, transfer) => self.read_in(mode, transfer, ack),
-        }
-    }
-
-    // Where no read is awaited the wire stays high. (rule 6.8)
-    fn unread(self) -> Answered
-        ensures { λ r. ⌜ r ≡ unreadOf self ⌝ }
-    {
-        Answered {
-            clock: self,
-            answer: Answer::Byte(0xFF),
-        }
-    }
-
-    // A read in an open transfer, by its mode. (rules 6.7 and 6.8)
-    fn read_in(self, mode: Mode, transfer: Transfer, ack: bool) -> Answered
-        ensures { λ r. ⌜ r ≡ readIn mode self transfer ack ⌝ }
-    {
-        match mode {
-            Mode::Address => self.unread(),
-            Mode::Pointer => self.unread(),
-            Mode::Writing => self.unread(),
-            Mode::Reading => Answered {
-                clock: self.moved(transfer, ack),
-                answer: Answer::Byte(self.shown(self.bus.pointer)),
+        let read = self.bus.read(ack);
+        let sent = read.sent;
+        match sent {
+            Sent::Nothing => Answered {
+                clock: self,
+                answer: Answer::Byte(0xFF),
             },
-            Mode::Deaf => self.unread(),
+            Sent::Register(a) => {
+                let bus = read.bus;
+                let mut clock = self.renewed(a);
+                clock.bus = bus;
+                Answered {
+                    clock,
+                    answer: Answer::Byte(self.shown(a)),
+                }
+            }
         }
     }
 }

@@ -1,13 +1,13 @@
 -- The two tests are the definition's, in its order. Assumes nothing.
+use borrow.Author.Needs.{needs}
 use mathlib.Core.Path.{sym, _∙_}
 use borrow.Author.Tests.{eq-eqb, ne-eqb}
 use Rattle.sd2068.specs.Power.{powerOnOf}
-use borrow.Author.Needs.{needs}
 use Rattle.sd2068.proofs.power.power_on.Statement.{statement}
 use Rattle.sd2068.proofs.power.power_on.Tie as tie
 
 zero-start-requires : tie.Need-zero-start-requires
-zero-start-requires c κs = search needs
+zero-start-requires c κs = tt
 
 returns : tie.Need-returns
 unfolding powerOnOf
@@ -17,16 +17,16 @@ start-time-requires : tie.Need-start-time-requires
 start-time-requires c κs = search needs
 
 clear-time-requires : tie.Need-clear-time-requires
-clear-time-requires c κs = search needs
+clear-time-requires c κs = tt
 
 start-ram-requires : tie.Need-start-ram-requires
 start-ram-requires c κs = search needs
 
 powered-requires : tie.Need-powered-requires
-powered-requires c κs = search needs
+powered-requires c κs = tt
 
 zero-start-requires-2 : tie.Need-zero-start-requires-2
-zero-start-requires-2 c κs = search needs
+zero-start-requires-2 c κs = tt
 
 returns-2 : tie.Need-returns-2
 unfolding powerOnOf

@@ -1,17 +1,16 @@
 -- The calls are the parts of the definition. Assumes nothing.
 use Rattle.sd2068.specs.Power.{poweredOf}
-use borrow.Author.Needs.{needs}
 use Rattle.sd2068.proofs.power.powered.Statement.{statement}
 use Rattle.sd2068.proofs.power.powered.Tie as tie
 
 no-alarm-requires : tie.Need-no-alarm-requires
-no-alarm-requires c κs = search needs
+no-alarm-requires c κs = tt
 
 no-countdown-requires : tie.Need-no-countdown-requires
-no-countdown-requires c κs = search needs
+no-countdown-requires c κs = tt
 
 no-control-requires : tie.Need-no-control-requires
-no-control-requires c κs = search needs
+no-control-requires c κs = tt
 
 returns : tie.Need-returns
 unfolding poweredOf

@@ -1,10 +1,9 @@
 -- The pin is that of the state. Assumes nothing.
-use borrow.Author.Needs.{needs}
 use Rattle.sd2068.proofs.step.told.Statement.{statement}
 use Rattle.sd2068.proofs.step.told.Tie as tie
 
 pin-requires : tie.Need-pin-requires
-pin-requires c κs = search needs
+pin-requires c κs = tt
 
 returns : tie.Need-returns
 returns c = simp (c .pin .ensures)

@@ -1,10 +1,9 @@
 -- The bus alone moves. Assumes nothing.
-use borrow.Author.Needs.{needs}
 use Rattle.sd2068.proofs.clock.Clock.aged.Statement.{statement}
 use Rattle.sd2068.proofs.clock.Clock.aged.Tie as tie
 
 older-requires : tie.Need-older-requires
-older-requires c κs = search needs
+older-requires c κs = tt
 
 returns : tie.Need-returns
 returns c = simp (c .older .ensures)

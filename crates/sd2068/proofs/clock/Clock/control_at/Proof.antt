@@ -1,15 +1,14 @@
 -- Each arm is a case of the definition. Assumes nothing.
 use borrow.Author.Tests.{ne-eqb}
 use Rattle.sd2068.specs.Reading.{controlAtOf}
-use borrow.Author.Needs.{needs}
 use Rattle.sd2068.proofs.clock.Clock.control_at.Statement.{statement}
 use Rattle.sd2068.proofs.clock.Clock.control_at.Tie as tie
 
 ctr1-requires : tie.Need-ctr1-requires
-ctr1-requires c κs = search needs
+ctr1-requires c κs = tt
 
 ctr2-requires : tie.Need-ctr2-requires
-ctr2-requires c κs = search needs
+ctr2-requires c κs = tt
 
 returns : tie.Need-returns
 unfolding controlAtOf

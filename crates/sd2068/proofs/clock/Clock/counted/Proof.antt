@@ -1,13 +1,12 @@
 -- The countdown alone moves. Assumes nothing.
-use borrow.Author.Needs.{needs}
 use Rattle.sd2068.proofs.clock.Clock.counted.Statement.{statement}
 use Rattle.sd2068.proofs.clock.Clock.counted.Tie as tie
 
 tds-requires : tie.Need-tds-requires
-tds-requires c κs = search needs
+tds-requires c κs = tt
 
 counted-requires : tie.Need-counted-requires
-counted-requires c κs = search needs
+counted-requires c κs = tt
 
 returns : tie.Need-returns
 returns c = simp (c .counted .ensures, c .before .tds .ensures)

@@ -1,10 +1,9 @@
 -- The divider alone moves. Assumes nothing.
-use borrow.Author.Needs.{needs}
 use Rattle.sd2068.proofs.clock.Clock.divided.Statement.{statement}
 use Rattle.sd2068.proofs.clock.Clock.divided.Tie as tie
 
 turned-over-requires : tie.Need-turned-over-requires
-turned-over-requires c κs = search needs
+turned-over-requires c κs = tt
 
 returns : tie.Need-returns
 returns c = simp (c .turned-over .ensures)

@@ -1,42 +1,41 @@
 -- Each arm is a case of the definition. Assumes nothing.
 use borrow.Author.Tests.{ne-eqb}
 use Rattle.sd2068.specs.Step.{eventOf}
-use borrow.Author.Needs.{needs}
 use Rattle.sd2068.proofs.clock.Clock.event.Statement.{statement}
 use Rattle.sd2068.proofs.clock.Clock.event.Tie as tie
 
 started-requires : tie.Need-started-requires
-started-requires c κs = search needs
+started-requires c κs = tt
 
 quiet-requires : tie.Need-quiet-requires
-quiet-requires c κs = search needs
+quiet-requires c κs = tt
 
 stopped-requires : tie.Need-stopped-requires
-stopped-requires c κs = search needs
+stopped-requires c κs = tt
 
 quiet-requires-2 : tie.Need-quiet-requires-2
-quiet-requires-2 c κs = search needs
+quiet-requires-2 c κs = tt
 
 byte-requires : tie.Need-byte-requires
-byte-requires c κs = search needs
+byte-requires c κs = tt
 
 read-requires : tie.Need-read-requires
-read-requires c κs = search needs
+read-requires c κs = tt
 
 read-requires-2 : tie.Need-read-requires-2
-read-requires-2 c κs = search needs
+read-requires-2 c κs = tt
 
 pulses-requires : tie.Need-pulses-requires
-pulses-requires c κs = search needs
+pulses-requires c κs = tt
 
 quiet-requires-3 : tie.Need-quiet-requires-3
-quiet-requires-3 c κs = search needs
+quiet-requires-3 c κs = tt
 
 lost-requires : tie.Need-lost-requires
-lost-requires c κs = search needs
+lost-requires c κs = tt
 
 quiet-requires-4 : tie.Need-quiet-requires-4
-quiet-requires-4 c κs = search needs
+quiet-requires-4 c κs = tt
 
 returns : tie.Need-returns
 unfolding eventOf

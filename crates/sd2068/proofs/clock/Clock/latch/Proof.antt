@@ -1,10 +1,9 @@
 -- The latch alone moves. Assumes nothing.
-use borrow.Author.Needs.{needs}
 use Rattle.sd2068.proofs.clock.Clock.latch.Statement.{statement}
 use Rattle.sd2068.proofs.clock.Clock.latch.Tie as tie
 
 bytes-requires : tie.Need-bytes-requires
-bytes-requires c κs = search needs
+bytes-requires c κs = tt
 
 returns : tie.Need-returns
 returns c = simp (c .bytes .ensures)

@@ -1,24 +1,23 @@
 -- Each arm is a case of the definition. Assumes nothing.
 use borrow.Author.Tests.{ne-eqb}
 use Rattle.sd2068.specs.Pin.{pinOf}
-use borrow.Author.Needs.{needs}
 use Rattle.sd2068.proofs.clock.Clock.pin.Statement.{statement}
 use Rattle.sd2068.proofs.clock.Clock.pin.Tie as tie
 
 ints-requires : tie.Need-ints-requires
-ints-requires c κs = search needs
+ints-requires c κs = tt
 
 bell-requires : tie.Need-bell-requires
-bell-requires c κs = search needs
+bell-requires c κs = tt
 
 fs-requires : tie.Need-fs-requires
-fs-requires c κs = search needs
+fs-requires c κs = tt
 
 frequency-requires : tie.Need-frequency-requires
-frequency-requires c κs = search needs
+frequency-requires c κs = tt
 
 bell-requires-2 : tie.Need-bell-requires-2
-bell-requires-2 c κs = search needs
+bell-requires-2 c κs = tt
 
 returns : tie.Need-returns
 unfolding pinOf

@@ -1,13 +1,12 @@
 -- The two pin pulses alone move. Assumes nothing.
-use borrow.Author.Needs.{needs}
 use Rattle.sd2068.proofs.clock.Clock.pin_pulsed.Statement.{statement}
 use Rattle.sd2068.proofs.clock.Clock.pin_pulsed.Tie as tie
 
 lessened-requires : tie.Need-lessened-requires
-lessened-requires c κs = search needs
+lessened-requires c κs = tt
 
 lessened-requires-2 : tie.Need-lessened-requires-2
-lessened-requires-2 c κs = search needs
+lessened-requires-2 c κs = tt
 
 returns : tie.Need-returns
 returns c = simp (c .lessened2 .ensures, c .before .lessened .ensures)

@@ -1,26 +1,25 @@
 -- The six stages, in their order. Assumes nothing.
 use Rattle.sd2068.specs.Pulse.{pulseOf}
-use borrow.Author.Needs.{needs}
 use Rattle.sd2068.proofs.clock.Clock.pulse.Statement.{statement}
 use Rattle.sd2068.proofs.clock.Clock.pulse.Tie as tie
 
 aged-requires : tie.Need-aged-requires
-aged-requires c κs = search needs
+aged-requires c κs = tt
 
 divided-requires : tie.Need-divided-requires
-divided-requires c κs = search needs
+divided-requires c κs = tt
 
 pin-pulsed-requires : tie.Need-pin-pulsed-requires
-pin-pulsed-requires c κs = search needs
+pin-pulsed-requires c κs = tt
 
 counted-requires : tie.Need-counted-requires
-counted-requires c κs = search needs
+counted-requires c κs = tt
 
 ticked-requires : tie.Need-ticked-requires
-ticked-requires c κs = search needs
+ticked-requires c κs = tt
 
 rung-requires : tie.Need-rung-requires
-rung-requires c κs = search needs
+rung-requires c κs = tt
 
 returns : tie.Need-returns
 unfolding pulseOf

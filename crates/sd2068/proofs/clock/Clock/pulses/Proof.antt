@@ -20,7 +20,7 @@ unfolding times
 loop-holds c = (search needs, refl)
 
 pulse-requires : tie.Need-pulse-requires Inv-loop μ-loop
-pulse-requires c κs = search needs
+pulse-requires c κs = tt
 
 add-i : tie.Need-add-i Inv-loop μ-loop
 add-i c = search needs

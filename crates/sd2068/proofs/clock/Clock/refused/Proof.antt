@@ -1,13 +1,12 @@
 -- A refusal is told of the state as it is. Assumes nothing.
-use borrow.Author.Needs.{needs}
 use Rattle.sd2068.proofs.clock.Clock.refused.Statement.{statement}
 use Rattle.sd2068.proofs.clock.Clock.refused.Tie as tie
 
 quiet-requires : tie.Need-quiet-requires
-quiet-requires c κs = search needs
+quiet-requires c κs = tt
 
 told-requires : tie.Need-told-requires
-told-requires c κs = search needs
+told-requires c κs = tt
 
 returns : tie.Need-returns
 returns c = simp (c .told .ensures, c .before .quiet .ensures)

@@ -6,13 +6,13 @@ use Rattle.sd2068.proofs.clock.Clock.register.Statement.{statement}
 use Rattle.sd2068.proofs.clock.Clock.register.Tie as tie
 
 byte-at-requires : tie.Need-byte-at-requires
-byte-at-requires c κs = search needs
+byte-at-requires c κs = tt
 
 byte-at-requires-2 : tie.Need-byte-at-requires-2
-byte-at-requires-2 c κs = search needs
+byte-at-requires-2 c κs = tt
 
 control-at-requires : tie.Need-control-at-requires
-control-at-requires c κs = search needs
+control-at-requires c κs = tt
 
 cast-i : tie.Need-cast-i
 cast-i c = search needs

@@ -24,7 +24,7 @@ cast-register : tie.Need-cast-register Inv-loop μ-loop
 cast-register c = search needs
 
 register-requires : tie.Need-register-requires Inv-loop μ-loop
-register-requires c κs = search needs
+register-requires c κs = tt
 
 array-write-all : tie.Need-array-write-all Inv-loop μ-loop
 array-write-all c = search needs

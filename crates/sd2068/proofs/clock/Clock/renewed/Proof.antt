@@ -4,15 +4,14 @@ use Prim.Native.Nat.{ℕ}
 use lib.Dec.{eqb}
 use borrow.Author.Tests.{eq-eqb, ne-eqb}
 use Rattle.sd2068.specs.Transfer.{renewedOf}
-use borrow.Author.Needs.{needs}
 use Rattle.sd2068.proofs.clock.Clock.renewed.Statement.{statement}
 use Rattle.sd2068.proofs.clock.Clock.renewed.Tie as tie
 
 next-requires : tie.Need-next-requires
-next-requires c κs = search needs
+next-requires c κs = tt
 
 latch-requires : tie.Need-latch-requires
-latch-requires c κs = search needs
+latch-requires c κs = tt
 
 returns : tie.Need-returns
 unfolding renewedOf

@@ -1,10 +1,9 @@
 -- The alarm alone moves. Assumes nothing.
-use borrow.Author.Needs.{needs}
 use Rattle.sd2068.proofs.clock.Clock.rung.Statement.{statement}
 use Rattle.sd2068.proofs.clock.Clock.rung.Tie as tie
 
 rung-requires : tie.Need-rung-requires
-rung-requires c κs = search needs
+rung-requires c κs = tt
 
 returns : tie.Need-returns
 returns c = simp (c .rung .ensures)

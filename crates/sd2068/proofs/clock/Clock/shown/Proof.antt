@@ -9,7 +9,7 @@ array-read-result : tie.Need-array-read-result
 array-read-result c = search needs
 
 register-requires : tie.Need-register-requires
-register-requires c κs = search needs
+register-requires c κs = tt
 
 returns : tie.Need-returns
 unfolding shownOf

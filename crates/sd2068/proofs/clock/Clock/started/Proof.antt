@@ -1,10 +1,9 @@
 -- The bus alone moves. Assumes nothing.
-use borrow.Author.Needs.{needs}
 use Rattle.sd2068.proofs.clock.Clock.started.Statement.{statement}
 use Rattle.sd2068.proofs.clock.Clock.started.Tie as tie
 
 started-requires : tie.Need-started-requires
-started-requires c κs = search needs
+started-requires c κs = tt
 
 returns : tie.Need-returns
 returns c = simp (c .started .ensures)

@@ -1,14 +1,13 @@
 -- Both flags go by the same test. Assumes nothing.
 use Rattle.sd2068.specs.Transfer.{stoppedOf}
-use borrow.Author.Needs.{needs}
 use Rattle.sd2068.proofs.clock.Clock.stopped.Statement.{statement}
 use Rattle.sd2068.proofs.clock.Clock.stopped.Tie as tie
 
 arst-requires : tie.Need-arst-requires
-arst-requires c κs = search needs
+arst-requires c κs = tt
 
 marked-requires : tie.Need-marked-requires
-marked-requires c κs = search needs
+marked-requires c κs = tt
 
 returns : tie.Need-returns
 unfolding stoppedOf

@@ -1,10 +1,9 @@
 -- The hand alone moves. Assumes nothing.
-use borrow.Author.Needs.{needs}
 use Rattle.sd2068.proofs.clock.Clock.ticked.Statement.{statement}
 use Rattle.sd2068.proofs.clock.Clock.ticked.Tie as tie
 
 ticked-requires : tie.Need-ticked-requires
-ticked-requires c κs = search needs
+ticked-requires c κs = tt
 
 returns : tie.Need-returns
 returns c = simp (c .ticked .ensures)

@@ -1,29 +1,28 @@
 -- The calls are the parts of the definition. Assumes nothing.
 use Rattle.sd2068.specs.WellFormed.{wellFormedOf}
-use borrow.Author.Needs.{needs}
 use Rattle.sd2068.proofs.clock.Clock.well_formed.Statement.{statement}
 use Rattle.sd2068.proofs.clock.Clock.well_formed.Tie as tie
 
 well-formed-requires : tie.Need-well-formed-requires
-well-formed-requires c κs = search needs
+well-formed-requires c κs = tt
 
 well-formed-requires-2 : tie.Need-well-formed-requires-2
-well-formed-requires-2 c κs = search needs
+well-formed-requires-2 c κs = tt
 
 well-formed-requires-3 : tie.Need-well-formed-requires-3
-well-formed-requires-3 c κs = search needs
+well-formed-requires-3 c κs = tt
 
 well-formed-requires-4 : tie.Need-well-formed-requires-4
-well-formed-requires-4 c κs = search needs
+well-formed-requires-4 c κs = tt
 
 well-formed-requires-5 : tie.Need-well-formed-requires-5
-well-formed-requires-5 c κs = search needs
+well-formed-requires-5 c κs = tt
 
 latch-well-requires : tie.Need-latch-well-requires
-latch-well-requires c κs = search needs
+latch-well-requires c κs = tt
 
 well-formed-requires-6 : tie.Need-well-formed-requires-6
-well-formed-requires-6 c κs = search needs
+well-formed-requires-6 c κs = tt
 
 returns : tie.Need-returns
 unfolding wellFormedOf

@@ -1,20 +1,19 @@
 -- Stored if the lock is open before and after; else the lock alone goes by the byte. Assumes nothing.
 use Rattle.sd2068.specs.Writing.{writeOf}
-use borrow.Author.Needs.{needs}
 use Rattle.sd2068.proofs.clock.Clock.write.Statement.{statement}
 use Rattle.sd2068.proofs.clock.Clock.write.Tie as tie
 
 written-requires : tie.Need-written-requires
-written-requires c κs = search needs
+written-requires c κs = tt
 
 is-open-requires : tie.Need-is-open-requires
-is-open-requires c κs = search needs
+is-open-requires c κs = tt
 
 is-open-requires-2 : tie.Need-is-open-requires-2
-is-open-requires-2 c κs = search needs
+is-open-requires-2 c κs = tt
 
 stored-requires : tie.Need-stored-requires
-stored-requires c κs = search needs
+stored-requires c κs = tt
 
 returns : tie.Need-returns
 unfolding writeOf

@@ -1,7 +1,7 @@
 -- Each case of the phase is the definition's. Assumes nothing.
 use borrow.Author.Needs.{needs}
-use Rattle.bus.proofs.Bus.older.Statement.{statement}
-use Rattle.bus.proofs.Bus.older.Tie as tie
+use Rattle.bus.proofs.phase.Bus.older.Statement.{statement}
+use Rattle.bus.proofs.phase.Bus.older.Tie as tie
 
 enum-told : tie.Need-enum-told
 enum-told c = search needs
@@ -10,7 +10,7 @@ enum-known-phase : tie.Need-enum-known-phase
 enum-known-phase c = search needs
 
 aged-requires : tie.Need-aged-requires
-aged-requires c κs = search needs
+aged-requires c κs = tt
 
 returns : tie.Need-returns
 returns c = simp (c .enum-told .given .1)

@@ -1,13 +1,13 @@
--- The bus as the chip sees it. (rules 6.1 to 6.12 and 8.2)
-use mathlib.Core.Bool.{Bool, false, cond, _&&_, _||_}
+-- The phase of the bus, and what time, START and STOP do to it. (rules 6.1, 6.2, 6.10 to 6.12 and 8.2)
+use mathlib.Core.Bool.{Bool, false, cond, _&&_}
 use Prim.Native.Nat.{ℕ, _+_}
-use lib.Dec.{eqb, ltb, leb}
-use Rattle.bus.specs.declared.Mode.{Mode}
-use Rattle.bus.specs.declared.Mode.the-variants.{Address, Reading, Deaf}
-use Rattle.bus.specs.declared.Transfer.{Transfer}
-use Rattle.bus.specs.declared.Phase.{Phase}
-use Rattle.bus.specs.declared.Phase.the-variants.{Closed, Open}
-use Rattle.bus.specs.declared.Bus.{Bus}
+use lib.Dec.{ltb, leb}
+use Rattle.bus.specs.declared.phase.Mode.{Mode}
+use Rattle.bus.specs.declared.phase.Mode.the-variants.{Address}
+use Rattle.bus.specs.declared.phase.Transfer.{Transfer}
+use Rattle.bus.specs.declared.phase.Phase.{Phase}
+use Rattle.bus.specs.declared.phase.Phase.the-variants.{Closed, Open}
+use Rattle.bus.specs.declared.phase.Bus.{Bus}
 
 -- the pointer after an access: 1Fh is followed by 00h
 abbrev pub nextOf : ℕ → ℕ
@@ -21,7 +21,7 @@ startedIn (Open m t) = Open Address t
 abbrev pub startedOf : Bus → Bus
 startedOf b = record { pointer = b .pointer; phase = startedIn (b .phase) }
 
--- no transfer is open and the pointer is 0
+-- what STOP leaves: no transfer is open and the pointer is 0
 abbrev pub closedBus : Bus
 closedBus = record { pointer = 0x00; phase = Closed }
 
@@ -46,14 +46,6 @@ markedIn (Open m t) = t .marked
 
 abbrev pub markedOf : Bus → Bool
 markedOf b = markedIn (b .phase)
-
--- after a byte was read: the pointer steps, 0Fh is marked, and a NAK makes the chip deaf
-abbrev pub readAtOf : ℕ → Transfer → Bool → Bus
-readAtOf pointer t ack =
-    record {
-      pointer = nextOf pointer;
-      phase = Open (cond ack Reading Deaf) (record { age = t .age; marked = eqb pointer 0x0F || t .marked });
-    }
 
 -- the pointer is at most 31 and the age of an open transfer at most 16,383
 abbrev pub ageIn : Phase → Bool → Bool

@@ -1,8 +1,8 @@
 -- The test is the definition's. Assumes nothing.
 use borrow.Author.Tests.{lt-ltb, le-ltb}
 use borrow.Author.Needs.{needs}
-use Rattle.bus.proofs.next.Statement.{statement}
-use Rattle.bus.proofs.next.Tie as tie
+use Rattle.bus.proofs.phase.next.Statement.{statement}
+use Rattle.bus.proofs.phase.next.Tie as tie
 
 add-result : tie.Need-add-result
 add-result c = search needs

@@ -1,7 +1,7 @@
 -- Each case of the phase is the definition's. Assumes nothing.
 use borrow.Author.Needs.{needs}
-use Rattle.bus.proofs.Bus.well_formed.Statement.{statement}
-use Rattle.bus.proofs.Bus.well_formed.Tie as tie
+use Rattle.bus.proofs.phase.Bus.well_formed.Statement.{statement}
+use Rattle.bus.proofs.phase.Bus.well_formed.Tie as tie
 
 enum-told : tie.Need-enum-told
 enum-told c = search needs

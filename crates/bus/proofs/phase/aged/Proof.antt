@@ -1,8 +1,8 @@
 -- The test is the definition's. Assumes nothing.
 use borrow.Author.Tests.{lt-ltb, le-ltb}
 use borrow.Author.Needs.{needs}
-use Rattle.bus.proofs.aged.Statement.{statement}
-use Rattle.bus.proofs.aged.Tie as tie
+use Rattle.bus.proofs.phase.aged.Statement.{statement}
+use Rattle.bus.proofs.phase.aged.Tie as tie
 
 cast-age : tie.Need-cast-age
 cast-age c = search needs
