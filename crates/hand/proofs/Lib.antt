@@ -1,1 +1,2 @@
 pub mod TrimTests
+pub mod WellLaws

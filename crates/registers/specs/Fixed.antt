@@ -1,6 +1,6 @@
 -- The bits that always read 0. (rule 2.2)
 use mathlib.Core.Bool.{Bool, cond, _&&_}
-use Prim.Native.Nat.{ℕ, _-_, _*_, _/_, _%_}
+use Prim.Native.Nat.{ℕ, _+_, _-_, _*_, _/_, _%_}
 use lib.Dec.{eqb, ltb}
 use Rattle.calendar.specs.declared.time.Time.{Time}
 
@@ -27,10 +27,14 @@ keptAlarm a b =
     (cond (eqb a 0x0D) b
     (b % 0x80))))
 
+-- 0Fh keeps the bits 7, 5, 4, 2, 0
+abbrev pub keptCtr1 : ℕ → ℕ
+keptCtr1 b = b / 0x80 * 0x80 + b / 0x10 % 4 * 0x10 + b / 0x04 % 2 * 0x04 + b % 2
+
 -- of the rest: bits 6, 3, 1 of 0Fh; bit 6 of 11h; bit 7 of 12h
 unfoldable pub keptControl : ℕ → ℕ → ℕ
 keptControl a b =
-    cond (eqb a 0x0F) (b - b / 0x40 % 2 * 0x40 - b / 0x08 % 2 * 0x08 - b / 0x02 % 2 * 0x02)
+    cond (eqb a 0x0F) (keptCtr1 b)
     (cond (eqb a 0x11) (without 0x40 b)
     (cond (eqb a 0x12) (b % 0x80)
     b))

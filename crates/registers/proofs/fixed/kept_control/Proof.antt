@@ -8,26 +8,26 @@ use Rattle.registers.proofs.fixed.kept_control.Tie as tie
 mul-result : tie.Need-mul-result
 mul-result c = search needs
 
-sub-result : tie.Need-sub-result
-sub-result c = search needs
-
 mul-result-2 : tie.Need-mul-result-2
 mul-result-2 c = search needs
 
-sub-result-2 : tie.Need-sub-result-2
-sub-result-2 c = search needs
+add-result : tie.Need-add-result
+add-result c = search needs
 
 mul-result-3 : tie.Need-mul-result-3
 mul-result-3 c = search needs
 
-sub-result-3 : tie.Need-sub-result-3
-sub-result-3 c = search needs
+add-result-2 : tie.Need-add-result-2
+add-result-2 c = search needs
+
+add-result-3 : tie.Need-add-result-3
+add-result-3 c = search needs
 
 mul-result-4 : tie.Need-mul-result-4
 mul-result-4 c = search needs
 
-sub-result-4 : tie.Need-sub-result-4
-sub-result-4 c = search needs
+sub-result : tie.Need-sub-result
+sub-result c = search needs
 
 returns : tie.Need-returns
 unfolding keptControl
@@ -50,13 +50,13 @@ kept-control-spec =
     tie.close
     (tie.spec
     mul-result
-    sub-result
     mul-result-2
-    sub-result-2
+    add-result
     mul-result-3
-    sub-result-3
+    add-result-2
+    add-result-3
     mul-result-4
-    sub-result-4
+    sub-result
     returns
     returns-2
     returns-3
