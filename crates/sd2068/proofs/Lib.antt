@@ -1,1 +1,3 @@
 pub mod WellLaws
+pub mod StageLaws
+pub mod ListedLaws

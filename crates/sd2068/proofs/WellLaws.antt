@@ -90,14 +90,16 @@ module _ (c : Clock) where
   pub whole : Well c → wellFormedOf c ≡ true
   unfolding wellFormedOf
   whole w =
-      simp (hand-laws.whole (c .hand) (w .hand),
-      alarm-laws.whole (c .alarm) (w .alarm),
-      countdown-laws.whole (c .countdown) (w .countdown),
-      w .lock,
-      w .control,
-      w .latched,
-      le-leb (c .divider) 524287 (w .divider),
-      bus-laws.whole (w .bus))
+      simp (
+        hand-laws.whole (c .hand) (w .hand),
+        alarm-laws.whole (c .alarm) (w .alarm),
+        countdown-laws.whole (c .countdown) (w .countdown),
+        w .lock,
+        w .control,
+        w .latched,
+        le-leb (c .divider) 524287 (w .divider),
+        bus-laws.whole (w .bus),
+      )
 
 -- what power leaves
 pub powered-well : (t : Time) (ram : List ℕ) → clearTimeOf t ≡ true → Well (poweredOf t ram)

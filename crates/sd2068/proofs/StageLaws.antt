@@ -1,0 +1,148 @@
+-- Each stage and event leaves alone what it does not own, and n pulses act on each group by itself. Assumes nothing.
+use mathlib.Core.Path.{_≡_, refl, ap, _∙_}
+use mathlib.Core.Bool.{Bool, _&&_}
+use Prim.Native.Nat.{ℕ, zero, suc}
+use lib.Dec.{eqb}
+use Rattle.calendar.specs.Repeat.{times}
+use Rattle.hand.specs.declared.hand.Hand.{Hand}
+use Rattle.hand.specs.Hand.{tickedOf}
+use Rattle.alarm.specs.declared.alarm.Alarm.{Alarm}
+use Rattle.alarm.specs.Alarm as alarm
+use Rattle.countdown.specs.declared.Countdown.{Countdown}
+use Rattle.countdown.specs.Countdown as countdown
+use Rattle.control.specs.declared.control.Control.{Control}
+use Rattle.control.specs.Control.{tdsOf}
+use Rattle.bus.specs.declared.phase.Bus.{Bus}
+use Rattle.bus.specs.declared.reads.Sent.{Sent}
+use Rattle.bus.specs.declared.reads.Sent.the-variants.{Nothing, Register}
+use Rattle.bus.specs.Phase.{olderOf}
+use Rattle.bus.specs.Reads as reads
+use Rattle.sd2068.specs.declared.clock.Clock.{Clock}
+use Rattle.sd2068.specs.Clock.{withHand, withAlarm, withCountdown, withLatched, withDivider, withBus}
+use Rattle.sd2068.specs.Writing.{writeOf}
+use Rattle.sd2068.specs.Pulse.{agedOf, turnedOverOf, dividedOf, pinPulsedOf, countedOf, advancedOf, rungOf, pulseOf, pulsesOf}
+use Rattle.sd2068.specs.Transfer.{startedOf, stoppedOf, renewedOf, sentBy, readOf}
+
+-- with the groups that it owns put back, the state is the one before
+module _ (c : Clock) where
+  pub aged-alone : withBus (agedOf c) (c .bus) ≡ c
+  aged-alone = refl
+
+  pub divided-alone : withDivider (dividedOf c) (c .divider) ≡ c
+  divided-alone = refl
+
+  pub pin-pulsed-alone : withCountdown (withAlarm (pinPulsedOf c) (c .alarm)) (c .countdown) ≡ c
+  pin-pulsed-alone = refl
+
+  pub counted-alone : withCountdown (countedOf c) (c .countdown) ≡ c
+  counted-alone = refl
+
+  pub advanced-alone : withHand (advancedOf c) (c .hand) ≡ c
+  advanced-alone = refl
+
+  pub rung-alone : withAlarm (rungOf c) (c .alarm) ≡ c
+  rung-alone = refl
+
+  pub start-alone : withBus (startedOf c) (c .bus) ≡ c
+  start-alone = refl
+
+  pub stop-alone : withBus (withCountdown (withAlarm (stoppedOf c) (c .alarm)) (c .countdown)) (c .bus) ≡ c
+  unfolding stoppedOf
+  stop-alone = refl
+
+  sent-alone : (s : Sent) (ack : Bool) → withBus (withLatched (sentBy s c ack .clock) (c .latched)) (c .bus) ≡ c
+  unfolding renewedOf
+  sent-alone Nothing ack = refl
+  sent-alone (Register a) ack = refl
+
+  pub read-alone : (ack : Bool) → withBus (withLatched (readOf c ack .clock) (c .latched)) (c .bus) ≡ c
+  unfolding readOf
+  read-alone ack = sent-alone (reads.readOf (c .bus) ack .sent) ack
+
+-- what a written byte never touches
+pub record Untouched (c d : Clock) : Type 0 where
+  pub rtcf : d .rtcf ≡ c .rtcf
+  pub latched : d .latched ≡ c .latched
+  pub divider : d .divider ≡ c .divider
+  pub bus : d .bus ≡ c .bus
+
+pub write-alone : (c : Clock) (a b : ℕ) → Untouched c (writeOf c a b)
+unfolding writeOf
+write-alone c a b = record { rtcf = refl; latched = refl; divider = refl; bus = refl }
+
+-- a part of the state that each pulse moves by itself is moved so n times
+pub by-itself : {A : Type 0} (view : Clock → A) (f : A → A) → ((c : Clock) → view (pulseOf c) ≡ f (view c)) → (n : ℕ) (c : Clock) → view (pulsesOf c n) ≡ times f n (view c)
+unfolding times
+by-itself view f step zero c = refl
+by-itself view f step (suc n) c = step (pulsesOf c n) ∙ ap f (by-itself view f step n c)
+
+-- and one that no pulse moves stays
+pub stays : {A : Type 0} (view : Clock → A) → ((c : Clock) → view (pulseOf c) ≡ view c) → (n : ℕ) (c : Clock) → view (pulsesOf c n) ≡ view c
+unfolding times
+stays view step zero c = refl
+stays view step (suc n) c = step (pulsesOf c n) ∙ stays view step n c
+
+pub pulses-hand : (n : ℕ) (c : Clock) → pulsesOf c n .hand ≡ times tickedOf n (c .hand)
+unfolding pulseOf
+pulses-hand = by-itself (λ c. c .hand) tickedOf (λ c. refl)
+
+pub pulses-bus : (n : ℕ) (c : Clock) → pulsesOf c n .bus ≡ times (λ (b : Bus). olderOf b 1) n (c .bus)
+unfolding pulseOf
+pulses-bus = by-itself (λ c. c .bus) (λ (b : Bus). olderOf b 1) (λ c. refl)
+
+pub pulses-divider : (n : ℕ) (c : Clock) → pulsesOf c n .divider ≡ times turnedOverOf n (c .divider)
+unfolding pulseOf
+pulses-divider = by-itself (λ c. c .divider) turnedOverOf (λ c. refl)
+
+-- the countdown goes by the controls, which no pulse moves
+abbrev pub countdownTurn : Control × Countdown → Control × Countdown
+countdownTurn s = (s .0, countdown.countedOf (countdown.lessenedOf (s .1) 1) (s .0 .intde) (tdsOf (s .0)))
+
+pub pulses-countdown : (n : ℕ) (c : Clock) → (pulsesOf c n .control, pulsesOf c n .countdown) ≡ times countdownTurn n (c .control, c .countdown)
+unfolding pulseOf
+pulses-countdown = by-itself (λ c. (c .control, c .countdown)) countdownTurn (λ c. refl)
+
+-- the alarm goes by the controls and by the hand after its advance
+pub record Watch : Type 0 where
+  pub control : Control
+  pub hand : Hand
+  pub alarm : Alarm
+
+abbrev pub watchOf : Clock → Watch
+watchOf c = record { control = c .control; hand = c .hand; alarm = c .alarm }
+
+abbrev pub watchTurn : Watch → Watch
+watchTurn s =
+    record {
+      control = s .control;
+      hand = tickedOf (s .hand);
+      alarm =
+          alarm.rungOf (alarm.lessenedOf (s .alarm) 1) (tickedOf (s .hand) .time)
+          (eqb (tickedOf (s .hand) .counter) 0 && s .control .intae);
+    }
+
+pub pulses-alarm : (n : ℕ) (c : Clock) → watchOf (pulsesOf c n) ≡ times watchTurn n (watchOf c)
+unfolding pulseOf
+pulses-alarm = by-itself watchOf watchTurn (λ c. refl)
+
+-- what no pulse moves
+module _ (n : ℕ) (c : Clock) where
+  pub pulses-lock : pulsesOf c n .lock ≡ c .lock
+  unfolding pulseOf
+  pulses-lock = stays (λ c. c .lock) (λ c. refl) n c
+
+  pub pulses-control : pulsesOf c n .control ≡ c .control
+  unfolding pulseOf
+  pulses-control = stays (λ c. c .control) (λ c. refl) n c
+
+  pub pulses-rtcf : pulsesOf c n .rtcf ≡ c .rtcf
+  unfolding pulseOf
+  pulses-rtcf = stays (λ c. c .rtcf) (λ c. refl) n c
+
+  pub pulses-ram : pulsesOf c n .ram ≡ c .ram
+  unfolding pulseOf
+  pulses-ram = stays (λ c. c .ram) (λ c. refl) n c
+
+  pub pulses-latched : pulsesOf c n .latched ≡ c .latched
+  unfolding pulseOf
+  pulses-latched = stays (λ c. c .latched) (λ c. refl) n c
