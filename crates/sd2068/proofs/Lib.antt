@@ -1,3 +1,4 @@
 pub mod WellLaws
-pub mod StageLaws
 pub mod ListedLaws
+pub mod StageLaws
+mod Settled
