@@ -14,7 +14,7 @@ use Rattle.fields.proofs.FieldLaws.{Held, twelve, hundred, byte-held, held, leg
 use Rattle.dates.specs.Months.{lastDayOf, monthByteOf, yearByteOf, daysOf, firstDayOf}
 use Rattle.dates.specs.Dates.{legalDateOf, carriedDate, nextDateOf, monthNumberOf, dayOf, dayNumberOf, monthOf, dateIn, dateAtOf}
 use Rattle.dates.specs.declared.date.Date.{Date}
-use Rattle.dates.proofs.MonthLaws.{century, first-zero, first-suc, first-small, Falls, found, falls, day-field, days-small}
+use Rattle.dates.proofs.MonthLaws.{century, first-zero, first-suc, first-small, Falls, found, day-field, days-small}
 
 -- what it is to be legal, as facts
 pub record LegalDate (d : Date) : Type 0 where

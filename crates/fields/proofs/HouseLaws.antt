@@ -12,7 +12,7 @@ use Rattle.fields.specs.House.{asField, lastHour, asHour, asTimeOfDay}
 use Rattle.fields.specs.declared.hours.HourMode.{HourMode}
 use Rattle.fields.specs.declared.hours.HourMode.the-variants.{Twelve, TwentyFour}
 use Rattle.fields.specs.declared.times.TimeOfDay.{TimeOfDay}
-use Rattle.fields.proofs.FieldLaws.{Held, Field, sixty, held, legal-held, Stepped, up, over, stepped}
+use Rattle.fields.proofs.FieldLaws.{Held, Field, sixty, legal-held, Stepped, up, over, stepped}
 use Rattle.fields.proofs.HourLaws.{HourStepped, later, turns, hour-stepped, number-first, next-legal}
 
 module _ (first last x : ℕ) (f : Field first last) where

@@ -1,7 +1,7 @@
 -- A state is well formed exactly if it is as refusal 1's row lists it. Assumes nothing.
 use mathlib.Core.Path.{_≡_, refl, sym, subst}
 use mathlib.Core.Bool.{Bool, true, false, cond, _&&_, _||_, not, true≢false}
-use Prim.Native.Nat.{ℕ, _+_, _*_, _/_, _%_, _≤_, _<_}
+use Prim.Native.Nat.{ℕ, _+_, _≤_, _<_}
 use native.Mathlib.Omega.{arith}
 use lib.Dec.{T, eqb, eqb→eq}
 use lib.ListN.{getD}
@@ -11,7 +11,6 @@ use Rattle.fields.proofs.Below.{both-left, both-right}
 use Rattle.registers.specs.Fixed.{keptCtr1, keptTime, keptAlarm, keptControl, keptOf, clearOf, clearTimeOf}
 use Rattle.registers.specs.Seven.{byteAtOf}
 use Rattle.registers.proofs.FixedLaws.{time-bytes}
-use Rattle.control.specs.declared.lock.Lock.{Lock}
 use Rattle.control.specs.Lock as lock
 use Rattle.control.specs.Lock.{ctr1Of}
 use Rattle.control.specs.Control as control
@@ -25,7 +24,7 @@ use Rattle.bus.proofs.WellLaws.{shut, opened}
 use Rattle.sd2068.specs.declared.clock.Clock.{Clock}
 use Rattle.sd2068.specs.Power.{startTime}
 use Rattle.sd2068.specs.Reading.{controlAtOf, registerOf}
-use Rattle.sd2068.specs.WellFormed.{latchWell, wellFormedOf, Listed}
+use Rattle.sd2068.specs.WellFormed.{wellFormedOf, Listed}
 use Rattle.sd2068.proofs.WellLaws.{Well, parts, whole}
 
 -- what holds of the first n numbers, one more at a time

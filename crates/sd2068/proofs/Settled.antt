@@ -1,8 +1,8 @@
 -- Every public contract of this crate settles its result. Assumes nothing.
 use mathlib.Core.Path.{_≡_, refl}
 use mathlib.Core.Bool.{Bool, true, false, cond}
-use mathlib.Core.List.{List, [], _∷_}
-use Prim.Native.Nat.{ℕ, _+_, _-_, _*_, _/_, _%_, _<_, _≤_}
+use mathlib.Core.List.{List}
+use Prim.Native.Nat.{ℕ, _+_, _-_, _*_, _/_, _%_, _≤_}
 use native.Mathlib.Omega.{arith}
 use lib.Dec.{eqb, ltb}
 use lib.ListN.{getD}
@@ -11,7 +11,6 @@ use Rattle.fields.proofs.Settles.{Settles, settled}
 use Rattle.control.specs.declared.pin.Level.{Level}
 use Rattle.control.specs.declared.pin.Level.the-variants.{High, Low, Crystal}
 use Rattle.control.specs.Pin.{letterOf}
-use Rattle.sd2068.specs.declared.clock.Clock.{Clock}
 use Rattle.sd2068.specs.declared.answers.Answer.{Answer}
 use Rattle.sd2068.specs.declared.answers.Answer.the-variants as answer
 use Rattle.sd2068.specs.declared.answers.Refusal.{Refusal}

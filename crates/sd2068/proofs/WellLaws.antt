@@ -1,10 +1,10 @@
 -- Every event keeps a well-formed state well formed, so after a good start no step is refused with 1. Assumes nothing.
-use mathlib.Core.Path.{_≡_, refl, sym, _∙_}
+use mathlib.Core.Path.{_≡_, refl, sym}
 use mathlib.Core.Bool.{Bool, true, false, cond, _&&_, true≢false}
 use mathlib.Core.List.{List}
 use Prim.Native.Nat.{ℕ, zero, suc, _≤_}
 use native.Mathlib.Omega.{arith}
-use lib.Dec.{eqb, ltb, leb}
+use lib.Dec.{eqb, ltb}
 use lib.ListN.{length}
 use borrow.Author.Tests.{leb-true, le-leb}
 use Rattle.fields.proofs.FieldLaws.{and-left, and-right}
@@ -13,13 +13,10 @@ use Rattle.calendar.specs.declared.time.Time.{Time}
 use Rattle.calendar.specs.Repeat.{times}
 use Rattle.registers.specs.Fixed.{keptOf, keptTime, keptAlarm, keptControl, clearOf, clearTimeOf}
 use Rattle.registers.specs.Seven.{bytesOf}
-use Rattle.hand.specs.declared.hand.Hand.{Hand}
 use Rattle.hand.specs.Hand as hand
 use Rattle.hand.proofs.WellLaws as hand-laws
-use Rattle.alarm.specs.declared.alarm.Alarm.{Alarm}
 use Rattle.alarm.specs.Alarm as alarm
 use Rattle.alarm.proofs.WellLaws as alarm-laws
-use Rattle.countdown.specs.declared.Countdown.{Countdown}
 use Rattle.countdown.specs.Countdown as countdown
 use Rattle.countdown.proofs.WellLaws as countdown-laws
 use Rattle.control.specs.declared.control.Control.{Control}
@@ -41,11 +38,11 @@ use Rattle.sd2068.specs.declared.clock.Clock.{Clock}
 use Rattle.sd2068.specs.declared.answers.Answered.{Answered}
 use Rattle.sd2068.specs.Clock.{withLatched, withBus}
 use Rattle.sd2068.specs.Power.{poweredOf, lostOf, startTime, startRam, startOf, zeroStart, Power, powerOnOf}
-use Rattle.sd2068.specs.Writing.{storesOf, writtenBy, writeOf}
+use Rattle.sd2068.specs.Writing.{storesOf, writeOf}
 use Rattle.sd2068.specs.Pulse.{pulseOf, pulsesOf}
-use Rattle.sd2068.specs.Transfer.{startedOf, stoppedOf, latchedOf, effectedBy, byteOf, renewedOf, sentBy, readOf}
+use Rattle.sd2068.specs.Transfer.{startedOf, stoppedOf, effectedBy, byteOf, renewedOf, sentBy, readOf}
 use Rattle.sd2068.specs.WellFormed.{latchWell, dividerWell, wellFormedOf}
-use Rattle.sd2068.specs.Step.{quietOf, eventOf, fieldsOf, refusalOf, stepOf}
+use Rattle.sd2068.specs.Step.{eventOf, fieldsOf, refusalOf, stepOf}
 
 -- the parts of a state that is well formed
 pub record Well (c : Clock) : Type 0 where

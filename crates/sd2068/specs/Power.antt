@@ -66,7 +66,7 @@ startRam s =
 abbrev pub startOf : List ℕ → Clock
 startOf s = poweredOf (startTime s) (startRam s)
 
--- the power-on state of 19 zero bytes
+-- what 19 zero bytes give
 abbrev pub zeroStart : Clock
 zeroStart = startOf (replicate 19 0)
 

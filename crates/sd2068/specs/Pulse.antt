@@ -1,4 +1,4 @@
--- One pulse, in its order: transfer age, divider, pin pulses, countdown, calendar, alarm. (rules 4.5 to 4.7)
+-- One pulse: six stages, each on the state that the one before it left. (rules 4.5 to 4.7)
 use mathlib.Core.Bool.{_&&_}
 use Prim.Native.Nat.{ℕ, _+_, _%_}
 use lib.Dec.{eqb}
@@ -15,7 +15,7 @@ use Rattle.sd2068.specs.Clock.{withHand, withAlarm, withCountdown, withD
 abbrev pub agedOf : Clock → Clock
 agedOf c = withBus c (olderOf (c .bus) 1)
 
--- the free divider: 524,287 is followed by 0
+-- the free divider wraps after 524,287
 abbrev pub turnedOverOf : ℕ → ℕ
 turnedOverOf divider = (divider + 1) % 524288
 

@@ -20,7 +20,7 @@ use Rattle.sd2068.specs.WellFormed.{wellFormedOf}
 abbrev pub quietOf : Clock → Answered
 quietOf c = record { clock = c; answer = Quiet }
 
--- 0 START, 1 STOP, 2 master byte, 3 read with ACK, 4 read with NAK, 5 pulses, 6 power loss
+-- by the kind, 0 to 6: START, STOP, a byte, a read that is acknowledged or not, pulses, power loss
 unfoldable pub eventOf : Clock → ℕ → ℕ → ℕ → Answered
 eventOf c kind byte count =
     cond (eqb kind 0) (quietOf (startedOf c))
@@ -31,7 +31,7 @@ eventOf c kind byte count =
     (cond (eqb kind 5) (quietOf (pulsesOf c count))
     (quietOf (lostOf c)))))))
 
--- only kind 2 uses the byte and only 5 the count, which is not 0; an unused field is 0
+-- the byte is kind 2's and the count kind 5's, where it is not 0; what a kind does not use is 0
 abbrev pub fieldsOf : ℕ → ℕ → ℕ → Bool
 fieldsOf kind byte count =
     cond (eqb kind 2) (eqb count 0)

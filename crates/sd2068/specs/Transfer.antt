@@ -26,7 +26,7 @@ use Rattle.sd2068.specs.Writing.{writeOf}
 abbrev pub startedOf : Clock → Clock
 startedOf c = withBus c (phase.startedOf (c .bus))
 
--- with ARST 1, if 0Fh was read in this transfer, the flags clear
+-- under ARST a transfer that read 0Fh clears the flags
 abbrev pub clearsOf : Clock → Bool
 clearsOf c = arstOf (c .control) && markedOf (c .bus)
 
@@ -37,7 +37,7 @@ abbrev pub countdownKept : Bool → Countdown → Countdown
 countdownKept keep d =
     record { count = d .count; reload = d .reload; prescaler = d .prescaler; flag = keep && d .flag; pulse = d .pulse }
 
--- STOP closes and sets the pointer to 0
+-- STOP leaves a closed bus
 unfoldable pub stoppedOf : Clock → Clock
 stoppedOf c =
     record {

@@ -15,7 +15,7 @@ use Rattle.sd2068.specs.declared.clock.Clock.{Clock}
 unfoldable pub ramStoredOf : List ℕ → ℕ → ℕ → List ℕ
 ramStoredOf ram a b = cond (ltb a 0x14) ram (cond (ltb a 0x20) (set ram (a - 0x14) b) ram)
 
--- stored: the lock is open before and after the byte
+-- a byte is stored if the lock is open on both sides of it
 abbrev pub storesOf : Clock → ℕ → ℕ → Bool
 storesOf c a b = openOf (c .lock) && openOf (writtenOf (c .lock) a b)
 

@@ -1,4 +1,4 @@
-// The SD2068: 32 registers, the calendar with trimming, the alarm, the countdown, the pin and the bus.
+// The SD2068: one state, and what power, pulses and the bus do to it.
 mod answers;
 mod clock;
 mod pin;

@@ -13,7 +13,7 @@ use hand::Hand;
 use registers::clear_time;
 ghost use mathlib.Core.Path.{_≡_};
 ghost use lib.ListN.{length};
-ghost use Rattle.sd2068.specs.Power.{noAlarm, noCountdown, noControl, poweredOf, lostOf, startTime, startRam, startOf, zeroStart, powerOnOf};
+ghost use Rattle.sd2068.specs.Power.{noAlarm, noCountdown, noControl, poweredOf, lostOf, startTime, startRam, zeroStart, powerOnOf};
 ghost use Rattle.sd2068.specs.Step.{started};
 
 fn no_alarm() -> Alarm
@@ -103,7 +103,7 @@ impl Clock {
     }
 }
 
-// The power-on state of 19 zero bytes, which a refusal hands back. (rule 8.4)
+// What 19 zero bytes give: a refusal hands it back. (rule 8.4)
 fn zero_start() -> Clock
     ensures { λ r. ⌜ r ≡ zeroStart ⌝ }
 {

@@ -3,7 +3,7 @@ use crate::clock::Clock;
 ghost use mathlib.Core.Path.{_≡_};
 ghost use Rattle.sd2068.specs.Pulse.{agedOf, turnedOverOf, dividedOf, pinPulsedOf, countedOf, advancedOf, rungOf, pulseOf, pulsesOf};
 
-// The free divider: 524,287 is followed by 0. (rule 4.6)
+// The free divider wraps after 524,287. (rule 4.6)
 fn turned_over(divider: u32) -> u32
     ensures { λ r. ⌜ r ≡ turnedOverOf divider ⌝ }
 {

@@ -27,7 +27,7 @@ impl Clock {
         self
     }
 
-    // STOP: with ARST 1, if 0Fh was read in this transfer, both flags clear. (rules 6.10 and 6.11)
+    // STOP: under ARST a transfer that read 0Fh clears both flags. (rules 6.10 and 6.11)
     pub(crate) fn stopped(mut self) -> Clock
         ensures { λ r. ⌜ r ≡ stoppedOf self ⌝ }
     {

@@ -20,7 +20,7 @@ fn ram_stored(mut ram: [u8; 12], a: u8, b: u8) -> [u8; 12]
 }
 
 impl Clock {
-    // A byte at register a: the lock bits go by it alone, the rest only if the lock is open before and after. (rule 7.2)
+    // A byte at register a: the lock bits go by it alone, the rest takes it if it is stored. (rule 7.2)
     pub(crate) fn write(self, a: u8, b: u8) -> Clock
         ensures { λ r. ⌜ r ≡ writeOf self a b ⌝ }
     {
