@@ -11,7 +11,7 @@ use Rattle.calendar.specs.declared.time.Time.{Time}
 use Rattle.registers.specs.Fixed.{keptOf, clearOf}
 use Rattle.registers.specs.Seven.{withByteOf}
 use Rattle.registers.proofs.FixedLaws.{Seven, all-seven, clear-held}
-use Rattle.alarm.specs.Alarm.{ringsOf, rungBy, rungOf, lessenedOf, storedOf, wellOf}
+use Rattle.alarm.specs.Alarm.{ringsOf, rungOf, lessenedOf, storedOf, wellOf}
 use Rattle.alarm.specs.declared.alarm.Alarm.{Alarm}
 
 -- each field by itself

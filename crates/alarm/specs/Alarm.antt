@@ -1,5 +1,5 @@
 -- The alarm as a part of the state. (rules 5.1, 5.5, 5.6, 2.7, 2.8 and 8.2)
-use mathlib.Core.Bool.{Bool, true, false, cond, _&&_, _||_, not}
+use mathlib.Core.Bool.{Bool, false, cond, _&&_, _||_, not}
 use Prim.Native.Nat.{ℕ, _-_, _/_, _%_}
 use lib.Dec.{eqb, ltb, leb}
 use Rattle.calendar.specs.declared.time.Time.{Time}

@@ -12,7 +12,7 @@ weekdayIn days w = cond (ltb w 7) (eqb (days / 2 ^ w % 2) 1) false
 abbrev pub off : ℕ → ℕ → Bool
 off w enable = eqb (enable / w % 2) 0
 
--- every enabled field matches; with day and weekday both enabled only the day is compared
+-- every field that counts matches; a day that counts leaves the weekday out
 unfoldable pub matchesOf : Time → ℕ → Time → Bool
 matchesOf at enable t =
     (off 0x01 enable || eqb (t .seconds) (at .seconds))

@@ -28,8 +28,9 @@ impl Alarm {
     fn judged(mut self, t: Time) -> Alarm
         ensures { λ r. ⌜ r ≡ rungOf self t true ⌝ }
     {
+        let flag = self.flag;
         let rings = (self.enable != 0) & matches(self.at, self.enable, t);
-        self.flag = rings | self.flag;
+        self.flag = rings | flag;
         self.pulse = choose(rings, 8192, self.pulse);
         self
     }

@@ -13,7 +13,7 @@ use Rattle.bus.specs.declared.phase.Bus.{Bus}
 abbrev pub nextOf : ℕ → ℕ
 nextOf pointer = cond (ltb pointer 0x1F) (pointer + 1) 0x00
 
--- START awaits an address, in a transfer of age 0 if none was open
+-- after START an address is awaited; a transfer that begins is new
 abbrev pub startedIn : Phase → Phase
 startedIn Closed = Open Address (record { age = 0; marked = false })
 startedIn (Open m t) = Open Address t

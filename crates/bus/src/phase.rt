@@ -11,7 +11,7 @@ pub enum Mode {
     Deaf,
 }
 
-// What an open transfer carries: its age, and whether 0Fh was read in it. (rule 6.1)
+// What an open transfer carries: its age in pulses, and the mark of a read at 0Fh. (rule 6.1)
 pub struct Transfer {
     pub age: u32,
     pub marked: bool,

@@ -1,1 +1,2 @@
 pub mod WellLaws
+pub mod Settled

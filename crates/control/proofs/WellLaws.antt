@@ -5,7 +5,7 @@ use Prim.Native.Nat.{ℕ}
 use lib.Dec.{eqb}
 use borrow.Author.Tests.{eqb-true}
 use Rattle.fields.proofs.Picked.{picked}
-use Rattle.registers.specs.Fixed.{keptOf, clearOf}
+use Rattle.registers.specs.Fixed.{keptOf}
 use Rattle.registers.proofs.FixedLaws.{clear-kept}
 use Rattle.control.specs.Control as control
 use Rattle.control.specs.Control.{bitOf, byCtr3}

@@ -9,7 +9,7 @@ use Rattle.control.specs.declared.control.Control.{Control}
 abbrev pub bitOf : ℕ → ℕ → Bool
 bitOf w b = eqb (b / w % 2) 1
 
--- 10h: 6 IM, 5 INTS1, 4 INTS0, 3 FOBAT, 2 INTDE, 1 INTAE, 0 INTFE
+-- the bits of 10h below the lock's
 abbrev pub byCtr2 : Control → ℕ → Control
 byCtr2 c b =
     record {
@@ -41,7 +41,7 @@ byCtr3 c k =
 unfoldable pub storedOf : Control → ℕ → ℕ → Control
 storedOf c a b = cond (eqb a 0x10) (byCtr2 c b) (cond (eqb a 0x11) (byCtr3 c (keptOf a b)) c)
 
--- 11h: 7 ARST, 5 TDS1, 4 TDS0, 3..0 FS
+-- the parts of 11h
 abbrev pub arstOf : Control → Bool
 arstOf c = bitOf 0x80 (c .ctr3)
 

@@ -6,15 +6,15 @@ use Rattle.control.specs.Control.{bitOf}
 use Rattle.control.specs.declared.control.Control.{Control}
 use Rattle.control.specs.declared.lock.Lock.{Lock}
 
--- open when WRTC1, 2 and 3 are 1
+-- open: all three bits
 abbrev pub openOf : Lock → Bool
 openOf l = l .wrtc1 && l .wrtc2 && l .wrtc3
 
--- 10h sets WRTC1 to its bit 7, and a 0 there clears the other two
+-- by 10h: its highest bit is WRTC1, and without it the other two go
 abbrev pub byCtr2 : Lock → ℕ → Lock
 byCtr2 l b = record { wrtc1 = bitOf 0x80 b; wrtc2 = bitOf 0x80 b && l .wrtc2; wrtc3 = bitOf 0x80 b && l .wrtc3 }
 
--- 0Fh sets WRTC2 and WRTC3 to its bits 2 and 7 while WRTC1 is 1
+-- by 0Fh: with WRTC1 the other two take its bits
 abbrev pub byCtr1 : Lock → ℕ → Lock
 byCtr1 l b =
     record {
@@ -30,12 +30,12 @@ writtenOf l a b = cond (eqb a 0x0F) (byCtr1 l b) (cond (eqb a 0x10) (byCtr2 l b)
 unfoldable pub wellOf : Lock → Bool
 wellOf l = l .wrtc1 || not (l .wrtc2 || l .wrtc3)
 
--- 0Fh: 7 WRTC3, 5 INTAF, 4 INTDF, 2 WRTC2, 0 RTCF
+-- 0Fh, of five bits
 unfoldable pub ctr1Of : Lock → Bool → Bool → Bool → ℕ
 ctr1Of l intaf intdf rtcf =
     cond (l .wrtc3) 0x80 0 + cond intaf 0x20 0 + cond intdf 0x10 0 + cond (l .wrtc2) 0x04 0 + cond rtcf 0x01 0
 
--- 10h: 7 WRTC1, 6 IM, 5 INTS1, 4 INTS0, 3 FOBAT, 2 INTDE, 1 INTAE, 0 INTFE
+-- 10h, of eight bits
 unfoldable pub ctr2Of : Lock → Control → ℕ
 ctr2Of l c =
     cond (l .wrtc1) 0x80 0 + cond (c .im) 0x40 0 + cond (c .ints1) 0x20 0 + cond (c .ints0) 0x10 0

@@ -7,8 +7,8 @@ use lib.Dec.{eqb, leb}
 use borrow.Author.Tests.{leb-true, leb-false, le-leb}
 use Rattle.fields.proofs.FieldLaws.{and-left, and-right}
 use Rattle.fields.proofs.Picked.{picked}
-use Rattle.registers.specs.Counters.{reachedOf, turnedOf}
-use Rattle.countdown.specs.Countdown.{limitOf, downOf, ticksOf, countedOf, lessenedOf, storedOf, wellOf}
+use Rattle.registers.specs.Counters.{reachedOf}
+use Rattle.countdown.specs.Countdown.{limitOf, ticksOf, countedOf, lessenedOf, storedOf, wellOf}
 use Rattle.countdown.specs.declared.Countdown.{Countdown}
 
 -- the parts of a countdown that is well formed

@@ -1,5 +1,5 @@
 -- The countdown. (rules 5.6 to 5.9, 2.7, 2.8 and 8.2)
-use mathlib.Core.Bool.{Bool, true, cond, _&&_, _||_}
+use mathlib.Core.Bool.{Bool, cond, _&&_, _||_}
 use Prim.Native.Nat.{ℕ, _-_, _/_, _%_}
 use lib.Dec.{eqb, leb}
 use Rattle.registers.specs.Counters.{reachedOf, turnedOf, lessOf}

@@ -1,2 +1,3 @@
 pub mod TrimTests
 pub mod WellLaws
+pub mod Settled

@@ -1,5 +1,5 @@
 -- The trim over all of its 128 values, by tests that antt computes. Assumes nothing.
-use mathlib.Core.Path.{_≡_, ap, sym}
+use mathlib.Core.Path.{_≡_, ap}
 use mathlib.Core.Bool.{Bool, true, false, _||_, true≢false}
 use Prim.Native.Nat.{ℕ, _-_, _*_, _^_, _≤_, _<_}
 use lib.Dec.{T, eqb, eqb→eq, ltb, ltb→lt}

@@ -1,6 +1,6 @@
 -- A pulse and a stored byte keep the hand within its bounds. Assumes nothing.
 use mathlib.Core.Path.{_≡_, refl}
-use mathlib.Core.Bool.{Bool, true, false, cond, _&&_}
+use mathlib.Core.Bool.{Bool, true, false, _&&_}
 use Prim.Native.Nat.{ℕ, _+_, _%_, _≤_, _<_}
 use native.Mathlib.Omega.{arith}
 use lib.Dec.{eqb, ltb, leb, leb→le}
@@ -12,11 +12,10 @@ use Rattle.fields.proofs.Picked.{picked}
 use Rattle.calendar.specs.declared.time.Time.{Time}
 use Rattle.calendar.specs.Advance.{advanceOf}
 use Rattle.calendar.proofs.FixedLaws.{stays-clear}
-use Rattle.registers.specs.Fixed.{keptOf, clearOf, clearTimeOf}
-use Rattle.registers.specs.Seven.{withByteOf}
+use Rattle.registers.specs.Fixed.{clearOf, clearTimeOf}
 use Rattle.registers.proofs.FixedLaws.{time-clear, clear-time, clear-held, stored-clear}
 use Rattle.hand.specs.Trim.{changeOf, trimmedOf, lengthOf}
-use Rattle.hand.specs.Hand.{endsOf, timeBy, tickedBy, tickedOf, restartedOf, storedOf, wellOf}
+use Rattle.hand.specs.Hand.{endsOf, tickedBy, tickedOf, storedOf, wellOf}
 use Rattle.hand.specs.declared.hand.Hand.{Hand}
 
 -- the longest second

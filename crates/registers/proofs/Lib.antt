@@ -1,1 +1,2 @@
 pub mod FixedLaws
+pub mod Settled

@@ -8,7 +8,7 @@ use Rattle.calendar.specs.declared.time.Time.{Time}
 abbrev pub without : ℕ → ℕ → ℕ
 without w b = b - b / w % 2 * w
 
--- of the time: bit 6 of 02h; bits 7 to 3 of 03h; bits 7, 6 of 04h; bits 7 to 5 of 05h; bit 7 of 00h, 01h
+-- the time: hours lose bit 6, the weekday all but three bits, day and month two and three, the year none, the others bit 7
 unfoldable pub keptTime : ℕ → ℕ → ℕ
 keptTime a b =
     cond (eqb a 0x02) (without 0x40 b)
@@ -18,7 +18,7 @@ keptTime a b =
     (cond (eqb a 0x06) b
     (b % 0x80)))))
 
--- of the alarm: bits 7, 6 of 09h, 0Bh; bits 7 to 5 of 0Ch; bit 7 of 07h, 08h, 0Ah, 0Eh
+-- the alarm: hours and day lose two bits, the month three, the year none, the others and 0Eh bit 7
 unfoldable pub keptAlarm : ℕ → ℕ → ℕ
 keptAlarm a b =
     cond (eqb a 0x09) (b % 0x40)
@@ -31,7 +31,7 @@ keptAlarm a b =
 abbrev pub keptCtr1 : ℕ → ℕ
 keptCtr1 b = b / 0x80 * 0x80 + b / 0x10 % 4 * 0x10 + b / 0x04 % 2 * 0x04 + b % 2
 
--- of the rest: bits 6, 3, 1 of 0Fh; bit 6 of 11h; bit 7 of 12h
+-- the rest: 0Fh has five bits, 11h loses bit 6, the trim bit 7
 unfoldable pub keptControl : ℕ → ℕ → ℕ
 keptControl a b =
     cond (eqb a 0x0F) (keptCtr1 b)

@@ -1,4 +1,4 @@
+pub mod GroupLaws
 pub mod WellLaws
 pub mod ListedLaws
-pub mod StageLaws
-mod Settled
+pub mod Settled

@@ -12,7 +12,7 @@ choose-requires c κs = search needs
 
 returns : tie.Need-returns
 unfolding rungOf
-returns c = simp (c .choose .ensures, c .before .before .matches .ensures)
+returns c = simp (c .choose .ensures, c .before .matches .ensures)
 
 pub judged-spec : {M : Type 1} → statement M
 judged-spec = tie.close (tie.spec matches-requires choose-requires returns)

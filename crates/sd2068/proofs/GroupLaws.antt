@@ -1,6 +1,6 @@
 -- Each stage and event leaves alone what it does not own, and n pulses act on each group by itself. Assumes nothing.
 use mathlib.Core.Path.{_≡_, refl, ap, _∙_}
-use mathlib.Core.Bool.{Bool, _&&_}
+use mathlib.Core.Bool.{Bool, false, _&&_}
 use Prim.Native.Nat.{ℕ, zero, suc}
 use lib.Dec.{eqb}
 use Rattle.calendar.specs.Repeat.{times}
@@ -18,8 +18,8 @@ use Rattle.bus.specs.declared.reads.Sent.the-variants.{Nothing, Register}
 use Rattle.bus.specs.Phase.{olderOf}
 use Rattle.bus.specs.Reads as reads
 use Rattle.sd2068.specs.declared.clock.Clock.{Clock}
-use Rattle.sd2068.specs.Clock.{withHand, withAlarm, withCountdown, withLatched, withDivider, withBus}
-use Rattle.sd2068.specs.Writing.{writeOf}
+use Rattle.sd2068.specs.Clock.{withHand, withAlarm, withCountdown, withLock, withLatched, withDivider, withBus}
+use Rattle.sd2068.specs.Writing.{storesOf, writeOf}
 use Rattle.sd2068.specs.Pulse.{agedOf, turnedOverOf, dividedOf, pinPulsedOf, countedOf, advancedOf, rungOf, pulseOf, pulsesOf}
 use Rattle.sd2068.specs.Transfer.{startedOf, stoppedOf, renewedOf, sentBy, readOf}
 
@@ -69,6 +69,11 @@ pub record Untouched (c d : Clock) : Type 0 where
 pub write-alone : (c : Clock) (a b : ℕ) → Untouched c (writeOf c a b)
 unfolding writeOf
 write-alone c a b = record { rtcf = refl; latched = refl; divider = refl; bus = refl }
+
+-- and where it is not stored, it moves lock bits alone
+pub lost-alone : (c : Clock) (a b : ℕ) → storesOf c a b ≡ false → withLock (writeOf c a b) (c .lock) ≡ c
+unfolding writeOf
+lost-alone c a b e = simp e
 
 -- a part of the state that each pulse moves by itself is moved so n times
 pub by-itself : {A : Type 0} (view : Clock → A) (f : A → A) → ((c : Clock) → view (pulseOf c) ≡ f (view c)) → (n : ℕ) (c : Clock) → view (pulsesOf c n) ≡ times f n (view c)

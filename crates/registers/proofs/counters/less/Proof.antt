@@ -1,0 +1,13 @@
+-- Below n the difference is 0, else it is as computed. Assumes nothing.
+use native.Mathlib.Omega.{arith}
+use Rattle.registers.proofs.counters.less.Statement.{statement}
+use Rattle.registers.proofs.counters.less.Tie as tie
+
+returns : tie.Need-returns
+returns c = omega arith
+
+returns-2 : tie.Need-returns-2
+returns-2 c = omega arith
+
+pub less-spec : {M : Type 1} → statement M
+less-spec = tie.close (tie.spec returns returns-2)
