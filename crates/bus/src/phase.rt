@@ -1,4 +1,4 @@
-// The phase of the bus, and what time, START and STOP do to it. (rules 6.1, 6.2, 6.11, 6.12 and 8.2)
+// The phase of the bus, and what START and time do to it. (rules 6.1, 6.2, 6.11, 6.12 and 8.2)
 ghost use mathlib.Core.Path.{_≡_};
 ghost use Rattle.bus.specs.Phase.{nextOf, startedOf, agedOf, olderOf, markedOf, wellOf};
 
@@ -113,5 +113,8 @@ fn aged(pointer: u8, mode: Mode, transfer: Transfer, n: u32) -> Bus
 pub fn next(pointer: u8) -> u8
     ensures { λ r. ⌜ r ≡ nextOf pointer ⌝ }
 {
-    if pointer < 0x1F { pointer + 1 } else { 0x00 }
+    match pointer {
+        0x00..=0x1E => pointer + 1,
+        _ => 0x00,
+    }
 }

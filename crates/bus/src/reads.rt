@@ -5,7 +5,7 @@ use crate::phase::Phase;
 use crate::phase::Transfer;
 use crate::phase::next;
 ghost use mathlib.Core.Path.{_≡_};
-ghost use Rattle.bus.specs.Reads.{movedOf, unreadOf, readIn, readOf};
+ghost use Rattle.bus.specs.Reads.{marksOf, movedOf, unreadOf, readIn, readOf};
 
 // The register whose byte is sent, if any.
 pub enum Sent {
@@ -67,13 +67,23 @@ fn unread(mode: Mode, pointer: u8, transfer: Transfer) -> Read
     }
 }
 
+// A read at 0Fh marks the transfer. (rule 6.11)
+fn marks(pointer: u8) -> bool
+    ensures { λ r. ⌜ r ≡ marksOf pointer ⌝ }
+{
+    match pointer {
+        0x0F => true,
+        _ => false,
+    }
+}
+
 // The pointer steps, 0Fh is marked, and a NAK makes the chip deaf. (rules 6.7 and 6.11)
 fn moved(pointer: u8, transfer: Transfer, ack: bool) -> Bus
     ensures { λ r. ⌜ r ≡ movedOf pointer transfer ack ⌝ }
 {
     let seen = Transfer {
         age: transfer.age,
-        marked: (pointer == 0x0F) | transfer.marked,
+        marked: marks(pointer) | transfer.marked,
     };
     if ack {
         Bus {

@@ -9,14 +9,6 @@ use Rattle.control.specs.declared.pin.Level.{Level}
 use Rattle.control.specs.declared.pin.Level.the-variants.{High, Low, Crystal}
 use Rattle.control.proofs.control.Control.stored.Kinds as stored-kinds
 use Rattle.control.proofs.control.Control.stored.Reads as stored-reads
-use Rattle.control.proofs.control.Control.arst.Kinds as arst-kinds
-use Rattle.control.proofs.control.Control.arst.Reads as arst-reads
-use Rattle.control.proofs.control.Control.tds.Kinds as tds-kinds
-use Rattle.control.proofs.control.Control.tds.Reads as tds-reads
-use Rattle.control.proofs.control.Control.fs.Kinds as fs-kinds
-use Rattle.control.proofs.control.Control.fs.Reads as fs-reads
-use Rattle.control.proofs.control.Control.ints.Kinds as ints-kinds
-use Rattle.control.proofs.control.Control.ints.Reads as ints-reads
 use Rattle.control.proofs.control.Control.well_formed.Kinds as control-well-formed-kinds
 use Rattle.control.proofs.control.Control.well_formed.Reads as control-well-formed-reads
 use Rattle.control.proofs.lock.Lock.is_open.Kinds as is-open-kinds
@@ -45,18 +37,6 @@ level-again Crystal = refl
 
 pub stored-settles : Settles 0 stored-kinds.ps stored-kinds.r stored-reads.Post
 stored-settles κs a e f x y = settled (λ z. z) (λ z. z) (λ z. refl)
-
-pub arst-settles : Settles 0 arst-kinds.ps arst-kinds.r arst-reads.Post
-arst-settles κs a e f x y = settled (λ z. z) (λ z. z) (λ z. refl)
-
-pub tds-settles : Settles 0 tds-kinds.ps tds-kinds.r tds-reads.Post
-tds-settles κs a e f x y = settled (λ z. z) (λ z. z) (λ z. refl)
-
-pub fs-settles : Settles 0 fs-kinds.ps fs-kinds.r fs-reads.Post
-fs-settles κs a e f x y = settled (λ z. z) (λ z. z) (λ z. refl)
-
-pub ints-settles : Settles 0 ints-kinds.ps ints-kinds.r ints-reads.Post
-ints-settles κs a e f x y = settled (λ z. z) (λ z. z) (λ z. refl)
 
 pub control-well-formed-settles : Settles 0 control-well-formed-kinds.ps control-well-formed-kinds.r control-well-formed-reads.Post
 control-well-formed-settles κs a e f x y = settled (λ z. z) (λ z. z) (λ z. refl)

@@ -1,9 +1,8 @@
 // What 10h and 11h set beside the lock. (rules 2.5, 2.6 and 8.2)
-use crate::bits::weight;
 use registers::clear;
 use registers::kept;
 ghost use mathlib.Core.Path.{_≡_};
-ghost use Rattle.control.specs.Control.{storedOf, wellOf, arstOf, tdsOf, fsOf, intsOf};
+ghost use Rattle.control.specs.Control.{storedOf, wellOf};
 
 pub struct Control {
     pub im: bool,
@@ -38,34 +37,6 @@ impl Control {
             }
             _ => self,
         }
-    }
-
-    // ARST: flags clear at STOP once 0Fh was read. (rule 2.6)
-    pub fn arst(self) -> bool
-        ensures { λ r. ⌜ r ≡ arstOf self ⌝ }
-    {
-        self.ctr3 / 0x80 % 2 == 1
-    }
-
-    // TDS, 0 to 3. (rule 2.6)
-    pub fn tds(self) -> u8
-        ensures { λ r. ⌜ r ≡ tdsOf self ⌝ }
-    {
-        self.ctr3 / 0x10 % 4
-    }
-
-    // FS, 0 to 15. (rule 2.6)
-    pub fn fs(self) -> u8
-        ensures { λ r. ⌜ r ≡ fsOf self ⌝ }
-    {
-        self.ctr3 % 0x10
-    }
-
-    // INTS, 0 to 3. (rule 2.5)
-    pub fn ints(self) -> u8
-        ensures { λ r. ⌜ r ≡ intsOf self ⌝ }
-    {
-        weight(self.ints1, 2) + weight(self.ints0, 1)
     }
 
     // Whether the state may be handed in: the fixed bit of 11h. (rule 8.2)

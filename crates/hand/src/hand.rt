@@ -65,5 +65,8 @@ impl Hand {
 fn restarted(counter: u32, a: u8) -> u32
     ensures { λ r. ⌜ r ≡ restartedOf counter a ⌝ }
 {
-    if a == 0x00 { 0 } else { counter }
+    match a {
+        0x00 => 0,
+        _ => counter,
+    }
 }

@@ -1,27 +1,42 @@
 -- Each stage and event leaves alone what it does not own, and n pulses act on each group by itself. Assumes nothing.
 use mathlib.Core.Path.{_≡_, refl, ap, _∙_}
-use mathlib.Core.Bool.{Bool, false, _&&_}
+use mathlib.Core.Bool.{Bool, true, false, _&&_}
+use mathlib.Core.List.{List}
 use Prim.Native.Nat.{ℕ, zero, suc}
-use lib.Dec.{eqb}
+use native.Mathlib.Omega.{arith}
+use lib.Dec.{eqb, ltb}
+use borrow.Author.Tests.{le-ltb, ltb-false}
 use Rattle.calendar.specs.Repeat.{times}
 use Rattle.hand.specs.declared.hand.Hand.{Hand}
+use Rattle.hand.specs.Hand as hand
 use Rattle.hand.specs.Hand.{tickedOf}
 use Rattle.alarm.specs.declared.alarm.Alarm.{Alarm}
 use Rattle.alarm.specs.Alarm as alarm
 use Rattle.countdown.specs.declared.Countdown.{Countdown}
 use Rattle.countdown.specs.Countdown as countdown
 use Rattle.control.specs.declared.control.Control.{Control}
+use Rattle.control.specs.Control as control
 use Rattle.control.specs.Control.{tdsOf}
 use Rattle.bus.specs.declared.phase.Bus.{Bus}
+use Rattle.bus.specs.declared.bytes.Effect.{Effect}
+use Rattle.bus.specs.declared.bytes.Effect.the-variants.{None, Latch, Write}
 use Rattle.bus.specs.declared.reads.Sent.{Sent}
 use Rattle.bus.specs.declared.reads.Sent.the-variants.{Nothing, Register}
 use Rattle.bus.specs.Phase.{olderOf}
+use Rattle.bus.specs.Bytes.{heardOf}
 use Rattle.bus.specs.Reads as reads
 use Rattle.sd2068.specs.declared.clock.Clock.{Clock}
 use Rattle.sd2068.specs.Clock.{withHand, withAlarm, withCountdown, withLock, withLatched, withDivider, withBus}
-use Rattle.sd2068.specs.Writing.{storesOf, writeOf}
+use Rattle.sd2068.specs.Power.{poweredOf, lostOf}
+use Rattle.sd2068.specs.Writing.{ramStoredOf, storesOf, writeOf}
 use Rattle.sd2068.specs.Pulse.{agedOf, turnedOverOf, dividedOf, pinPulsedOf, countedOf, advancedOf, rungOf, pulseOf, pulsesOf}
-use Rattle.sd2068.specs.Transfer.{startedOf, stoppedOf, renewedOf, sentBy, readOf}
+use Rattle.sd2068.specs.Transfer.{startedOf, stoppedOf, effectedBy, byteOf, renewedOf, sentBy, readOf}
+
+-- what is left of a byte's event once the bus, and what its effect owns, are put back
+abbrev pub Beside : Effect → Clock → ℕ → Clock → Type 0
+Beside None c b d = withBus d (c .bus) ≡ c
+Beside Latch c b d = withBus (withLatched d (c .latched)) (c .bus) ≡ c
+Beside (Write a) c b d = withBus d (c .bus) ≡ writeOf c a b
 
 -- with the groups that it owns put back, the state is the one before
 module _ (c : Clock) where
@@ -59,6 +74,22 @@ module _ (c : Clock) where
   unfolding readOf
   read-alone ack = sent-alone (reads.readOf (c .bus) ack .sent) ack
 
+  pub lost-keeps : (lostOf c .hand .time ≡ c .hand .time) × (lostOf c .ram ≡ c .ram)
+  unfolding poweredOf
+  lost-keeps = (refl, refl)
+
+-- a byte with no effect moves the bus, one that latches the latch too, and one that writes does what the write does
+module _ (c : Clock) (b : ℕ) where
+  effect-alone : (e : Effect) (x : Bus) → Beside e c b (withBus (effectedBy e c b) x)
+  unfolding writeOf
+  effect-alone None x = refl
+  effect-alone Latch x = refl
+  effect-alone (Write a) x = refl
+
+  pub byte-alone : Beside (heardOf (c .bus) b .effect) c b (byteOf c b .clock)
+  unfolding byteOf
+  byte-alone = effect-alone (heardOf (c .bus) b .effect) (heardOf (c .bus) b .bus)
+
 -- what a written byte never touches
 pub record Untouched (c d : Clock) : Type 0 where
   pub rtcf : d .rtcf ≡ c .rtcf
@@ -71,9 +102,30 @@ unfolding writeOf
 write-alone c a b = record { rtcf = refl; latched = refl; divider = refl; bus = refl }
 
 -- and where it is not stored, it moves lock bits alone
-pub lost-alone : (c : Clock) (a b : ℕ) → storesOf c a b ≡ false → withLock (writeOf c a b) (c .lock) ≡ c
+pub unstored-alone : (c : Clock) (a b : ℕ) → storesOf c a b ≡ false → withLock (writeOf c a b) (c .lock) ≡ c
 unfolding writeOf
-lost-alone c a b e = simp e
+unstored-alone c a b e = simp e
+
+-- a stored byte leaves the groups alone that have no register at its address
+pub hand-kept : (h : Hand) (a b : ℕ) → ltb a 0x07 ≡ false → eqb a 0x12 ≡ false → hand.storedOf h a b ≡ h
+unfolding hand.storedOf
+hand-kept h a b time trim = simp (time, trim)
+
+pub alarm-kept : (x : Alarm) (a b : ℕ) → ltb a 0x0E ≡ false → eqb a 0x0E ≡ false → eqb a 0x0F ≡ false → alarm.storedOf x a b ≡ x
+unfolding alarm.storedOf
+alarm-kept x a b fields enable flag = simp (le-ltb a 0x07 (omega (arith, ltb-false a 0x0E fields)), fields, enable, flag)
+
+pub countdown-kept : (d : Countdown) (a b : ℕ) → eqb a 0x0F ≡ false → eqb a 0x11 ≡ false → eqb a 0x13 ≡ false → countdown.storedOf d a b ≡ d
+unfolding countdown.storedOf
+countdown-kept d a b flag source count = simp (flag, source, count)
+
+pub control-kept : (k : Control) (a b : ℕ) → eqb a 0x10 ≡ false → eqb a 0x11 ≡ false → control.storedOf k a b ≡ k
+unfolding control.storedOf
+control-kept k a b ctr2 ctr3 = simp (ctr2, ctr3)
+
+pub ram-kept : (ram : List ℕ) (a b : ℕ) → ltb a 0x14 ≡ true → ramStoredOf ram a b ≡ ram
+unfolding ramStoredOf
+ram-kept ram a b low = simp low
 
 -- a part of the state that each pulse moves by itself is moved so n times
 pub by-itself : {A : Type 0} (view : Clock → A) (f : A → A) → ((c : Clock) → view (pulseOf c) ≡ f (view c)) → (n : ℕ) (c : Clock) → view (pulsesOf c n) ≡ times f n (view c)

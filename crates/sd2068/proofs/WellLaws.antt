@@ -262,6 +262,10 @@ module _ (c : Clock) (w : Well c) where
   unfolding stepOf
   step-well kind byte count = picked After (eqb (refusalOf c kind byte count) 0) (event-well kind byte count) w
 
+-- the same of the test that a step makes
+pub step-keeps : (c : Clock) → wellFormedOf c ≡ true → (kind byte count : ℕ) → wellFormedOf (stepOf c kind byte count .state) ≡ true
+step-keeps c e kind byte count = whole (stepOf c kind byte count .state) (step-well c (parts c e) kind byte count)
+
 -- the states that steps lead to from a power-on, refused or not
 pub data Reached : Clock → Type 0 where
   powered : (s : List ℕ) → Reached (powerOnOf s .state)

@@ -1,6 +1,7 @@
 // The SD2068: one state, and what power, pulses and the bus do to it.
 mod answers;
 mod clock;
+mod controls;
 mod pin;
 mod power;
 mod pulse;

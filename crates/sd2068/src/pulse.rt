@@ -1,5 +1,6 @@
 // One pulse, stage by stage. (rules 4.5 to 4.7)
 use crate::clock::Clock;
+use crate::controls::tds;
 ghost use mathlib.Core.Path.{_≡_};
 ghost use Rattle.sd2068.specs.Pulse.{agedOf, turnedOverOf, dividedOf, pinPulsedOf, countedOf, advancedOf, rungOf, pulseOf, pulsesOf};
 
@@ -40,7 +41,7 @@ impl Clock {
     fn counted(mut self) -> Clock
         ensures { λ r. ⌜ r ≡ countedOf self ⌝ }
     {
-        let tds = self.control.tds();
+        let tds = tds(self.control.ctr3);
         self.countdown = self.countdown.counted(self.control.intde, tds);
         self
     }

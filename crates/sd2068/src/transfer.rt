@@ -2,6 +2,7 @@
 use crate::answers::Answer;
 use crate::answers::Answered;
 use crate::clock::Clock;
+use crate::controls::arst;
 use bus::Bus;
 use bus::Effect;
 use bus::Phase;
@@ -31,7 +32,7 @@ impl Clock {
     pub(crate) fn stopped(mut self) -> Clock
         ensures { λ r. ⌜ r ≡ stoppedOf self ⌝ }
     {
-        let keep = !(self.control.arst() & self.bus.marked());
+        let keep = !(arst(self.control.ctr3) & self.bus.marked());
         let mut alarm = self.alarm;
         let mut countdown = self.countdown;
         let bus = Bus {
@@ -85,8 +86,10 @@ impl Clock {
     fn renewed(self, a: u8) -> Clock
         ensures { λ r. ⌜ r ≡ renewedOf self a ⌝ }
     {
-        let after = next(a);
-        if after == 0x00 { self.latch() } else { self }
+        match next(a) {
+            0x00 => self.latch(),
+            _ => self,
+        }
     }
 
     // A read: the byte at the pointer, and then what moves. (rules 6.7 to 6.9)

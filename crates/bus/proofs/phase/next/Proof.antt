@@ -1,4 +1,4 @@
--- The test is the definition's. Assumes nothing.
+-- The range is the definition's test. Assumes nothing.
 use borrow.Author.Tests.{lt-ltb, le-ltb}
 use borrow.Author.Needs.{needs}
 use Rattle.bus.proofs.phase.next.Statement.{statement}

@@ -1,8 +1,5 @@
--- The test is the definition's. Assumes nothing.
-use mathlib.Core.Path.{sym, ap, _∙_}
-use Prim.Native.Nat.{ℕ}
-use lib.Dec.{eqb}
-use borrow.Author.Tests.{eq-eqb, ne-eqb}
+-- Each arm is a case of the definition. Assumes nothing.
+use borrow.Author.Tests.{ne-eqb}
 use Rattle.sd2068.specs.Transfer.{renewedOf}
 use Rattle.sd2068.proofs.clock.Clock.renewed.Statement.{statement}
 use Rattle.sd2068.proofs.clock.Clock.renewed.Tie as tie
@@ -15,11 +12,11 @@ latch-requires c κs = tt
 
 returns : tie.Need-returns
 unfolding renewedOf
-returns c = simp (c .latch .ensures, sym (ap (λ (n : ℕ). eqb n 0) (c .before .before .next .ensures)) ∙ eq-eqb _ _ (c .before .if1 .taken))
+returns c = simp (c .latch .ensures, ← c .before .before .next .ensures, c .before .match .keys1)
 
 returns-2 : tie.Need-returns-2
 unfolding renewedOf
-returns-2 c = simp (sym (ap (λ (n : ℕ). eqb n 0) (c .before .next .ensures)) ∙ ne-eqb _ _ (c .if1 .left))
+returns-2 c = simp (← c .before .next .ensures, ne-eqb _ _ (c .match .rest .1))
 
 pub renewed-spec : {M : Type 1} → statement M
 renewed-spec = tie.close (tie.spec next-requires latch-requires returns returns-2)
