@@ -1,4 +1,4 @@
-// The alarm as a part of the state. (rules 5.1, 5.5, 5.6, 2.7 and 8.2)
+// The alarm as a part of the state. (rules 5.1, 5.5, 5.6, 2.7, 2.8 and 8.2)
 use crate::matching::matches;
 use calendar::Time;
 use registers::choose;

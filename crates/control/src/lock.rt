@@ -1,4 +1,4 @@
-// The lock, and the two registers that its bits stand in. (rules 7.1 to 7.5, 2.4 and 2.5)
+// The lock, and the two registers that its bits stand in. (rules 7.1 to 7.5, 2.4, 2.5 and 8.2)
 use crate::bits::either;
 use crate::bits::weight;
 use crate::control::Control;

@@ -1,4 +1,4 @@
-// The countdown: count and reload, the prescaler, its flag and its pin pulse. (rules 5.7 to 5.10, 2.7 and 8.2)
+// The countdown: count and reload, the prescaler, its flag and its pin pulse. (rules 5.6 to 5.9, 2.7, 2.8 and 8.2)
 use fields::pick;
 use registers::choose;
 use registers::less;

@@ -1,4 +1,4 @@
--- The 32 registers as they stand, and as the bus sees them. (rules 2.1 to 2.6, 2.12 and 6.7)
+-- The 32 registers as they stand, and as the bus sees them. (rules 2.1 to 2.6, 2.12, 5.10 and 6.7)
 use mathlib.Core.Bool.{cond}
 use mathlib.Core.List.{List, [], _∷_, _++_}
 use Prim.Native.Nat.{ℕ, zero, suc, _-_}

@@ -1,4 +1,4 @@
-// What events and entries answer. (rules 8.1 and 8.3)
+// What events and entries answer. (rules 8.1, 8.3 and 8.4)
 use crate::clock::Clock;
 use control::Level;
 
@@ -10,7 +10,7 @@ pub enum Answer {
     Byte(u8),
 }
 
-// The rows of the refusals' table; State to Field are a step's, Section and Start a power-on's, the rest a file's.
+// The rows of the refusals' table; State to Field are a step's, Section and Start a power-on's, the rest a file's alone.
 pub enum Refusal {
     None,
     State,

@@ -47,7 +47,7 @@ impl Clock {
     }
 
     // Calendar. (rule 4.1)
-    fn ticked(mut self) -> Clock
+    fn advanced(mut self) -> Clock
         ensures { λ r. ⌜ r ≡ advancedOf self ⌝ }
     {
         self.hand = self.hand.ticked();
@@ -67,7 +67,12 @@ impl Clock {
     fn pulse(self) -> Clock
         ensures { λ r. ⌜ r ≡ pulseOf self ⌝ }
     {
-        self.aged().divided().pin_pulsed().counted().ticked().rung()
+        self.aged()
+            .divided()
+            .pin_pulsed()
+            .counted()
+            .advanced()
+            .rung()
     }
 
     // n pulses. (rule 4.7)

@@ -18,6 +18,7 @@ use Rattle.control.specs.Control as control
 use Rattle.bus.specs.Bytes.{heardOf}
 use Rattle.bus.specs.Reads as reads
 use Rattle.sd2068.specs.declared.clock.Clock.{Clock}
+use Rattle.sd2068.specs.Clock.{withDivider}
 use Rattle.sd2068.specs.Power.{poweredOf, powerOnOf}
 use Rattle.sd2068.specs.Reading.{registerOf, shownOf}
 use Rattle.sd2068.specs.Writing.{ramStoredOf, writeOf}
@@ -83,8 +84,8 @@ flags (n ∷ ns) c = let d = after (pulses n ∷ []) c in d .countdown .flag ∷
 record Cases : Type 0 where
   -- the worked example's answers and pins
   worked : List ℕ
-  -- the refusal of an unknown kind
-  unknown : ℕ
+  -- the refusals of a state that is not well formed, of an unknown kind, of an unused field, of no pulses, of none
+  refusals : List ℕ
   -- the second's length at 00h for F 02h, 3Fh, 42h, 7Eh, 7Fh, 15h, 44h, 40h, 41h
   lengths : List ℕ
   -- and at 01h for F 02h
@@ -100,7 +101,13 @@ computed : Cases
 computed =
     record {
       worked = lines (start ∷ byte 0x65 ∷ ack ∷ nak ∷ stop ∷ []) sample;
-      unknown = stepOf sample 9 0 0 .refusal;
+      refusals =
+          stepOf (withDivider sample 524288) 9 1 1 .refusal
+          ∷ stepOf sample 9 1 1 .refusal
+          ∷ stepOf sample 0 1 0 .refusal
+          ∷ stepOf sample 5 0 0 .refusal
+          ∷ stepOf sample 5 0 1 .refusal
+          ∷ [];
       lengths = map (lengthOf 0x00) (0x02 ∷ 0x3F ∷ 0x42 ∷ 0x7E ∷ 0x7F ∷ 0x15 ∷ 0x44 ∷ 0x40 ∷ 0x41 ∷ []);
       untrimmed = lengthOf 0x01 0x02;
       swapped = openOf (after (writes 0x0F (0x84 ∷ 0x80 ∷ [])) sample .lock);
@@ -113,7 +120,7 @@ expected : Cases
 expected =
     record {
       worked = 45 ∷ 45 ∷ 72 ∷ 65 ∷ 75 ∷ 72 ∷ 50 ∷ 48 ∷ 72 ∷ 49 ∷ 57 ∷ 72 ∷ 45 ∷ 45 ∷ 72 ∷ [];
-      unknown = 2;
+      refusals = 1 ∷ 2 ∷ 3 ∷ 3 ∷ 0 ∷ [];
       lengths = 32770 ∷ 32892 ∷ 32644 ∷ 32764 ∷ 32766 ∷ 32808 ∷ 32648 ∷ 32768 ∷ 32768 ∷ [];
       untrimmed = 32768;
       swapped = false;

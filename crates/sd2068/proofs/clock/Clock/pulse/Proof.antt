@@ -15,15 +15,15 @@ pin-pulsed-requires c κs = tt
 counted-requires : tie.Need-counted-requires
 counted-requires c κs = tt
 
-ticked-requires : tie.Need-ticked-requires
-ticked-requires c κs = tt
+advanced-requires : tie.Need-advanced-requires
+advanced-requires c κs = tt
 
 rung-requires : tie.Need-rung-requires
 rung-requires c κs = tt
 
 returns : tie.Need-returns
 unfolding pulseOf
-returns c = simp (c .rung .ensures, c .before .ticked .ensures, c .before .before .counted .ensures, c .before .before .before .pin-pulsed .ensures, c .before .before .before .before .divided .ensures, c .before .before .before .before .before .aged .ensures)
+returns c = simp (c .rung .ensures, c .before .advanced .ensures, c .before .before .counted .ensures, c .before .before .before .pin-pulsed .ensures, c .before .before .before .before .divided .ensures, c .before .before .before .before .before .aged .ensures)
 
 pub pulse-spec : {M : Type 1} → statement M
 pulse-spec =
@@ -33,6 +33,6 @@ pulse-spec =
     divided-requires
     pin-pulsed-requires
     counted-requires
-    ticked-requires
+    advanced-requires
     rung-requires
     returns)
