@@ -1,5 +1,5 @@
 -- A read. (rules 6.7, 6.8 and 6.11)
-use mathlib.Core.Bool.{Bool, true, false, cond, _||_}
+use mathlib.Core.Bool.{Bool, cond, _||_}
 use Prim.Native.Nat.{ℕ}
 use lib.Dec.{eqb}
 use Rattle.bus.specs.declared.phase.Mode.{Mode}
@@ -14,7 +14,7 @@ use Rattle.bus.specs.Phase.{nextOf}
 
 -- a read at 0Fh marks the transfer
 abbrev pub marksOf : ℕ → Bool
-marksOf p = cond (eqb p 0x0F) true false
+marksOf p = eqb p 0x0F
 
 -- after a byte was read: the pointer steps, 0Fh is marked, and a NAK makes the chip deaf
 abbrev pub movedOf : ℕ → Transfer → Bool → Bus

@@ -27,10 +27,10 @@ use Rattle.control.proofs.pin.frequency.Kinds as frequency-kinds
 use Rattle.control.proofs.pin.frequency.Reads as frequency-reads
 
 -- a level can be had back from its letter
-abbrev level-back : ℕ → Level
+abbrev pub level-back : ℕ → Level
 level-back n = cond (eqb n 72) High (cond (eqb n 76) Low Crystal)
 
-level-again : (x : Level) → level-back (letterOf x) ≡ x
+pub level-again : (x : Level) → level-back (letterOf x) ≡ x
 level-again High = refl
 level-again Low = refl
 level-again Crystal = refl

@@ -1,6 +1,6 @@
 -- What 10h and 11h set beside the lock. (rules 2.5, 2.6 and 8.2)
 use mathlib.Core.Bool.{Bool, cond}
-use Prim.Native.Nat.{ℕ, _+_, _/_, _%_}
+use Prim.Native.Nat.{ℕ, _/_, _%_}
 use lib.Dec.{eqb}
 use Rattle.registers.specs.Fixed.{keptOf, clearOf}
 use Rattle.control.specs.declared.control.Control.{Control}
@@ -40,33 +40,6 @@ byCtr3 c k =
 -- a byte stored at register a
 unfoldable pub storedOf : Control → ℕ → ℕ → Control
 storedOf c a b = cond (eqb a 0x10) (byCtr2 c b) (cond (eqb a 0x11) (byCtr3 c (keptOf a b)) c)
-
--- the parts of 11h
-abbrev pub arstIn : ℕ → Bool
-arstIn ctr3 = bitOf 0x80 ctr3
-
-abbrev pub tdsIn : ℕ → ℕ
-tdsIn ctr3 = ctr3 / 0x10 % 4
-
-abbrev pub fsIn : ℕ → ℕ
-fsIn ctr3 = ctr3 % 0x10
-
--- INTS, of its two bits
-abbrev pub intsIn : Bool → Bool → ℕ
-intsIn ints1 ints0 = cond ints1 2 0 + cond ints0 1 0
-
--- the same of the controls
-abbrev pub arstOf : Control → Bool
-arstOf c = arstIn (c .ctr3)
-
-abbrev pub tdsOf : Control → ℕ
-tdsOf c = tdsIn (c .ctr3)
-
-abbrev pub fsOf : Control → ℕ
-fsOf c = fsIn (c .ctr3)
-
-abbrev pub intsOf : Control → ℕ
-intsOf c = intsIn (c .ints1) (c .ints0)
 
 -- the fixed bit of 11h is 0
 unfoldable pub wellOf : Control → Bool

@@ -1,3 +1,4 @@
 pub mod TrimTests
+pub mod SecondLaws
 pub mod WellLaws
 pub mod Settled

@@ -15,8 +15,9 @@ use Rattle.alarm.specs.Alarm as alarm
 use Rattle.countdown.specs.declared.Countdown.{Countdown}
 use Rattle.countdown.specs.Countdown as countdown
 use Rattle.control.specs.declared.control.Control.{Control}
+use Rattle.control.specs.declared.lock.Lock.{Lock}
+use Rattle.control.specs.Lock as lock
 use Rattle.control.specs.Control as control
-use Rattle.control.specs.Control.{tdsOf}
 use Rattle.bus.specs.declared.phase.Bus.{Bus}
 use Rattle.bus.specs.declared.bytes.Effect.{Effect}
 use Rattle.bus.specs.declared.bytes.Effect.the-variants.{None, Latch, Write}
@@ -26,6 +27,7 @@ use Rattle.bus.specs.Phase.{olderOf}
 use Rattle.bus.specs.Bytes.{heardOf}
 use Rattle.bus.specs.Reads as reads
 use Rattle.sd2068.specs.declared.clock.Clock.{Clock}
+use Rattle.sd2068.specs.Controls.{tdsOf}
 use Rattle.sd2068.specs.Clock.{withHand, withAlarm, withCountdown, withLock, withLatched, withDivider, withBus}
 use Rattle.sd2068.specs.Power.{poweredOf, lostOf}
 use Rattle.sd2068.specs.Writing.{ramStoredOf, storesOf, writeOf}
@@ -123,6 +125,10 @@ pub control-kept : (k : Control) (a b : ℕ) → eqb a 0x10 ≡ false → eqb a 
 unfolding control.storedOf
 control-kept k a b ctr2 ctr3 = simp (ctr2, ctr3)
 
+pub lock-kept : (l : Lock) (a b : ℕ) → eqb a 0x0F ≡ false → eqb a 0x10 ≡ false → lock.writtenOf l a b ≡ l
+unfolding lock.writtenOf
+lock-kept l a b ctr1 ctr2 = simp (ctr1, ctr2)
+
 pub ram-kept : (ram : List ℕ) (a b : ℕ) → ltb a 0x14 ≡ true → ramStoredOf ram a b ≡ ram
 unfolding ramStoredOf
 ram-kept ram a b low = simp low
@@ -153,7 +159,7 @@ pulses-divider = by-itself (λ c. c .divider) turnedOverOf (λ c. refl)
 
 -- the countdown goes by the controls, which no pulse moves
 abbrev pub countdownTurn : Control × Countdown → Control × Countdown
-countdownTurn s = (s .0, countdown.countedOf (countdown.lessenedOf (s .1) 1) (s .0 .intde) (tdsOf (s .0)))
+countdownTurn s = (s .0, countdown.countedOf (countdown.lessenedOf (s .1) 1) (s .0 .intde) (tdsOf (s .0 .ctr3)))
 
 pub pulses-countdown : (n : ℕ) (c : Clock) → (pulsesOf c n .control, pulsesOf c n .countdown) ≡ times countdownTurn n (c .control, c .countdown)
 unfolding pulseOf

@@ -8,9 +8,8 @@ use lib.Dec.{eqb, ltb}
 use lib.ListN.{getD}
 use borrow.Author.Tests.{ltb-true, ltb-false, lt-ltb, le-ltb, ne-eqb}
 use Rattle.fields.proofs.Settles.{Settles, settled}
-use Rattle.control.specs.declared.pin.Level.{Level}
-use Rattle.control.specs.declared.pin.Level.the-variants.{High, Low, Crystal}
 use Rattle.control.specs.Pin.{letterOf}
+use Rattle.control.proofs.Settled.{level-back, level-again}
 use Rattle.sd2068.specs.declared.answers.Answer.{Answer}
 use Rattle.sd2068.specs.declared.answers.Answer.the-variants as answer
 use Rattle.sd2068.specs.declared.answers.Refusal.{Refusal}
@@ -33,16 +32,7 @@ use Rattle.sd2068.proofs.clock.Clock.well_formed.Reads as well-formed-r
 use Rattle.sd2068.proofs.clock.Clock.step.Kinds as step-kinds
 use Rattle.sd2068.proofs.clock.Clock.step.Reads as step-reads
 
--- a level can be had back from its character
-abbrev level-back : ℕ → Level
-level-back n = cond (eqb n 72) High (cond (eqb n 76) Low Crystal)
-
-level-again : (x : Level) → level-back (letterOf x) ≡ x
-level-again High = refl
-level-again Low = refl
-level-again Crystal = refl
-
--- a refusal from its number
+-- a refusal can be had back from its number
 abbrev refusal-back : ℕ → Refusal
 refusal-back n =
     cond (eqb n 0) refusal.None

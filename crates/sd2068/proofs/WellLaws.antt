@@ -22,7 +22,6 @@ use Rattle.countdown.proofs.WellLaws as countdown-laws
 use Rattle.control.specs.declared.control.Control.{Control}
 use Rattle.control.specs.Lock as lock
 use Rattle.control.specs.Control as control
-use Rattle.control.specs.Control.{tdsOf}
 use Rattle.control.proofs.WellLaws as control-laws
 use Rattle.bus.specs.declared.phase.Bus.{Bus}
 use Rattle.bus.specs.declared.bytes.Effect.{Effect}
@@ -36,6 +35,7 @@ use Rattle.bus.specs.Reads as reads
 use Rattle.bus.proofs.WellLaws as bus-laws
 use Rattle.sd2068.specs.declared.clock.Clock.{Clock}
 use Rattle.sd2068.specs.declared.answers.Answered.{Answered}
+use Rattle.sd2068.specs.Controls.{tdsOf}
 use Rattle.sd2068.specs.Clock.{withLatched, withBus}
 use Rattle.sd2068.specs.Power.{poweredOf, lostOf, startTime, startRam, startOf, zeroStart, Power, powerOnOf}
 use Rattle.sd2068.specs.Writing.{storesOf, writeOf}
@@ -146,7 +146,7 @@ module _ (c : Clock) (w : Well c) where
             (hand.tickedOf (c .hand) .time) (eqb (hand.tickedOf (c .hand) .counter) 0 && c .control .intae);
         countdown =
             countdown-laws.counted-well (countdown.lessenedOf (c .countdown) 1) (countdown-laws.lessened-well (c .countdown) (w .countdown) 1)
-            (c .control .intde) (tdsOf (c .control));
+            (c .control .intde) (tdsOf (c .control .ctr3));
         lock = w .lock;
         control = w .control;
         latched = w .latched;

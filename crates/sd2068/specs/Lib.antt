@@ -1,4 +1,5 @@
 pub mod Clock
+pub mod Controls
 pub mod Power
 pub mod Reading
 pub mod Writing

@@ -6,9 +6,9 @@ use Rattle.calendar.specs.Repeat.{times}
 use Rattle.hand.specs.Hand.{tickedOf}
 use Rattle.alarm.specs.Alarm as alarm
 use Rattle.countdown.specs.Countdown as countdown
-use Rattle.control.specs.Control.{tdsOf}
 use Rattle.bus.specs.Phase.{olderOf}
 use Rattle.sd2068.specs.declared.clock.Clock.{Clock}
+use Rattle.sd2068.specs.Controls.{tdsOf}
 use Rattle.sd2068.specs.Clock.{withHand, withAlarm, withCountdown, withDivider, withBus}
 
 -- transfer age
@@ -28,7 +28,7 @@ pinPulsedOf c = withCountdown (withAlarm c (alarm.lessenedOf (c .alarm) 1)) (cou
 
 -- countdown
 abbrev pub countedOf : Clock → Clock
-countedOf c = withCountdown c (countdown.countedOf (c .countdown) (c .control .intde) (tdsOf (c .control)))
+countedOf c = withCountdown c (countdown.countedOf (c .countdown) (c .control .intde) (tdsOf (c .control .ctr3)))
 
 -- calendar
 abbrev pub advancedOf : Clock → Clock

@@ -3,7 +3,6 @@ use mathlib.Core.Bool.{Bool, cond, _&&_, not}
 use Prim.Native.Nat.{ℕ}
 use lib.Dec.{eqb}
 use Rattle.registers.specs.Seven.{bytesOf}
-use Rattle.control.specs.Control.{arstOf}
 use Rattle.bus.specs.declared.bytes.Effect.{Effect}
 use Rattle.bus.specs.declared.bytes.Effect.the-variants as effect
 use Rattle.bus.specs.declared.reads.Sent.{Sent}
@@ -18,6 +17,7 @@ use Rattle.sd2068.specs.declared.clock.Clock.{Clock}
 use Rattle.sd2068.specs.declared.answers.Answer.{Answer}
 use Rattle.sd2068.specs.declared.answers.Answer.the-variants.{Ack, Nak, Byte}
 use Rattle.sd2068.specs.declared.answers.Answered.{Answered}
+use Rattle.sd2068.specs.Controls.{arstOf}
 use Rattle.sd2068.specs.Clock.{withLatched, withBus}
 use Rattle.sd2068.specs.Reading.{shownOf}
 use Rattle.sd2068.specs.Writing.{writeOf}
@@ -28,7 +28,7 @@ startedOf c = withBus c (phase.startedOf (c .bus))
 
 -- under ARST a transfer that read 0Fh clears the flags
 abbrev pub clearsOf : Clock → Bool
-clearsOf c = arstOf (c .control) && markedOf (c .bus)
+clearsOf c = arstOf (c .control .ctr3) && markedOf (c .bus)
 
 abbrev pub alarmKept : Bool → Alarm → Alarm
 alarmKept keep a = record { at = a .at; enable = a .enable; flag = keep && a .flag; pulse = a .pulse }

@@ -13,22 +13,28 @@ use hand::Hand;
 use registers::clear_time;
 ghost use mathlib.Core.Path.{_≡_};
 ghost use lib.ListN.{length};
-ghost use Rattle.sd2068.specs.Power.{noAlarm, noCountdown, noControl, poweredOf, lostOf, startTime, startRam, zeroStart, powerOnOf};
+ghost use Rattle.sd2068.specs.Power.{zeroTime, noAlarm, noCountdown, noControl, poweredOf, lostOf, startTime, startRam, zeroStart, powerOnOf};
 ghost use Rattle.sd2068.specs.Step.{started};
+
+fn zero_time() -> Time
+    ensures { λ r. ⌜ r ≡ zeroTime ⌝ }
+{
+    Time {
+        seconds: 0,
+        minutes: 0,
+        hours: 0,
+        weekday: 0,
+        day: 0,
+        month: 0,
+        year: 0,
+    }
+}
 
 fn no_alarm() -> Alarm
     ensures { λ r. ⌜ r ≡ noAlarm ⌝ }
 {
     Alarm {
-        at: Time {
-            seconds: 0,
-            minutes: 0,
-            hours: 0,
-            weekday: 0,
-            day: 0,
-            month: 0,
-            year: 0,
-        },
+        at: zero_time(),
         enable: 0,
         flag: false,
         pulse: 0,
@@ -107,16 +113,7 @@ impl Clock {
 fn zero_start() -> Clock
     ensures { λ r. ⌜ r ≡ zeroStart ⌝ }
 {
-    let time = Time {
-        seconds: 0,
-        minutes: 0,
-        hours: 0,
-        weekday: 0,
-        day: 0,
-        month: 0,
-        year: 0,
-    };
-    powered(time, [0, 0, 0, 0, 0, 0, 0, 0, 0, 0, 0, 0])
+    powered(zero_time(), [0, 0, 0, 0, 0, 0, 0, 0, 0, 0, 0, 0])
 }
 
 // The time among the start bytes. (rule 2.9)

@@ -1,4 +1,4 @@
-// Scripts of 19 start bytes, a count of events and the events: kind, byte, count. (rules 2.9 and 8.1)
+// Whole scripts, one after the other: 19 start bytes, a count of events and the events. (rules 2.9 and 8.1)
 use crate::lines::print_refusal;
 use crate::lines::print_registers;
 use crate::lines::print_step;
