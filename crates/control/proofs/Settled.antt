@@ -21,6 +21,8 @@ use Rattle.control.proofs.lock.ctr1.Kinds as ctr1-kinds
 use Rattle.control.proofs.lock.ctr1.Reads as ctr1-reads
 use Rattle.control.proofs.lock.ctr2.Kinds as ctr2-kinds
 use Rattle.control.proofs.lock.ctr2.Reads as ctr2-reads
+use Rattle.control.proofs.pin.Level.letter.Kinds as letter-kinds
+use Rattle.control.proofs.pin.Level.letter.Reads as letter-reads
 use Rattle.control.proofs.pin.bell.Kinds as bell-kinds
 use Rattle.control.proofs.pin.bell.Reads as bell-reads
 use Rattle.control.proofs.pin.frequency.Kinds as frequency-kinds
@@ -55,6 +57,9 @@ ctr1-settles κs a e f x y = settled (λ z. z) (λ z. z) (λ z. refl)
 
 pub ctr2-settles : Settles 0 ctr2-kinds.ps ctr2-kinds.r ctr2-reads.Post
 ctr2-settles κs a e f x y = settled (λ z. z) (λ z. z) (λ z. refl)
+
+pub letter-settles : Settles 0 letter-kinds.ps letter-kinds.r letter-reads.Post
+letter-settles κs a e f x y = settled (λ z. z) (λ z. z) (λ z. refl)
 
 pub bell-settles : Settles 0 bell-kinds.ps bell-kinds.r bell-reads.Post
 bell-settles κs a e f x y = settled letterOf level-back level-again

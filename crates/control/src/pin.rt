@@ -8,6 +8,19 @@ pub enum Level {
     Crystal,
 }
 
+impl Level {
+    // The character of a script's line. (rule 8.1)
+    pub fn letter(self) -> u8
+        ensures { λ r. ⌜ r ≡ letterOf self ⌝ }
+    {
+        match self {
+            Level::High => 72,
+            Level::Low => 76,
+            Level::Crystal => 88,
+        }
+    }
+}
+
 // A pin that is low or high.
 fn driven(low: bool) -> Level
     ensures { λ r. ⌜ letterOf r ≡ drivenOf low ⌝ }

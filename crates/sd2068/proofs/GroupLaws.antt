@@ -1,11 +1,12 @@
--- Each stage and event leaves alone what it does not own, and n pulses act on each group by itself. Assumes nothing.
+-- Each stage and event leaves alone what it does not own, and any number of pulses moves each group by itself. Assumes nothing.
 use mathlib.Core.Path.{_≡_, refl, ap, _∙_}
 use mathlib.Core.Bool.{Bool, true, false, _&&_}
 use mathlib.Core.List.{List}
-use Prim.Native.Nat.{ℕ, zero, suc}
+use mathlib.Core.Logic.{_⊎_, inl, inr}
+use Prim.Native.Nat.{ℕ, zero, suc, _≤_, _<_}
 use native.Mathlib.Omega.{arith}
 use lib.Dec.{eqb, ltb}
-use borrow.Author.Tests.{le-ltb, ltb-false}
+use borrow.Author.Tests.{lt-ltb, le-ltb, ne-eqb}
 use Rattle.calendar.specs.Repeat.{times}
 use Rattle.hand.specs.declared.hand.Hand.{Hand}
 use Rattle.hand.specs.Hand as hand
@@ -113,9 +114,10 @@ pub hand-kept : (h : Hand) (a b : ℕ) → ltb a 0x07 ≡ false → eqb a 0x12 �
 unfolding hand.storedOf
 hand-kept h a b time trim = simp (time, trim)
 
-pub alarm-kept : (x : Alarm) (a b : ℕ) → ltb a 0x0E ≡ false → eqb a 0x0E ≡ false → eqb a 0x0F ≡ false → alarm.storedOf x a b ≡ x
+pub alarm-kept : (x : Alarm) (a b : ℕ) → (a < 0x07) ⊎ (0x10 ≤ a) → alarm.storedOf x a b ≡ x
 unfolding alarm.storedOf
-alarm-kept x a b fields enable flag = simp (le-ltb a 0x07 (omega (arith, ltb-false a 0x0E fields)), fields, enable, flag)
+alarm-kept x a b (inl h) = simp (lt-ltb a 0x07 h, ne-eqb a 0x0E (λ e. omega arith), ne-eqb a 0x0F (λ e. omega arith))
+alarm-kept x a b (inr h) = simp (le-ltb a 0x07 (omega arith), le-ltb a 0x0E (omega arith), ne-eqb a 0x0E (λ e. omega arith), ne-eqb a 0x0F (λ e. omega arith))
 
 pub countdown-kept : (d : Countdown) (a b : ℕ) → eqb a 0x0F ≡ false → eqb a 0x11 ≡ false → eqb a 0x13 ≡ false → countdown.storedOf d a b ≡ d
 unfolding countdown.storedOf

@@ -34,6 +34,7 @@ use Rattle.bus.specs.Bytes.{heardOf}
 use Rattle.bus.specs.Reads as reads
 use Rattle.bus.proofs.WellLaws as bus-laws
 use Rattle.sd2068.specs.declared.clock.Clock.{Clock}
+use Rattle.events.specs.Refusals.{fieldsOf, faultOf}
 use Rattle.sd2068.specs.declared.answers.Answered.{Answered}
 use Rattle.sd2068.specs.Controls.{tdsOf}
 use Rattle.sd2068.specs.Clock.{withLatched, withBus}
@@ -42,7 +43,7 @@ use Rattle.sd2068.specs.Writing.{storesOf, writeOf}
 use Rattle.sd2068.specs.Pulse.{pulseOf, pulsesOf}
 use Rattle.sd2068.specs.Transfer.{startedOf, stoppedOf, effectedBy, byteOf, renewedOf, sentBy, readOf}
 use Rattle.sd2068.specs.WellFormed.{latchWell, dividerWell, wellFormedOf}
-use Rattle.sd2068.specs.Step.{eventOf, fieldsOf, refusalOf, stepOf}
+use Rattle.sd2068.specs.Step.{eventOf, refusalOf, toldOf, stepOf}
 
 -- the parts of a state that is well formed
 pub record Well (c : Clock) : Type 0 where
@@ -286,3 +287,8 @@ pub never-first : {c : Clock} → Reached c → (kind byte count : ℕ) → step
 unfolding stepOf refusalOf
 never-first {c} r kind byte count =
     first-only (wellFormedOf c) (ltb kind 7) (fieldsOf kind byte count) (whole c (reached-well r))
+
+-- on a well-formed state an event that is not at fault is taken, and does what its definition says
+pub step-taken : (c : Clock) → Well c → (kind byte count : ℕ) → faultOf kind byte count ≡ 0 → stepOf c kind byte count ≡ toldOf 0 (eventOf c kind byte count)
+unfolding stepOf refusalOf
+step-taken c w kind byte count good = simp (whole c w, good)

@@ -5,7 +5,7 @@ pub mod Reading
 pub mod Writing
 pub mod Pulse
 pub mod Pin
-pub mod Answers
 pub mod Transfer
 pub mod WellFormed
 pub mod Step
+pub mod Run

@@ -1,18 +1,19 @@
 -- The single step: refusals 1, 2, 3 in this order, then the event. (rules 8.1 and 8.3)
-use mathlib.Core.Bool.{Bool, true, false, cond, _&&_, not}
+use mathlib.Core.Bool.{true, false, cond}
 use mathlib.Core.List.{List}
 use Prim.Native.Nat.{ℕ}
-use lib.Dec.{eqb, ltb}
+use lib.Dec.{eqb}
 use Rattle.control.specs.Pin.{letterOf}
+use Rattle.events.specs.declared.answer.Answer.the-variants.{Quiet}
+use Rattle.events.specs.Answers.{textOf}
+use Rattle.events.specs.Refusals.{numberOf, faultOf}
 use Rattle.sd2068.specs.declared.clock.Clock.{Clock}
-use Rattle.sd2068.specs.declared.answers.Answer.the-variants.{Quiet}
 use Rattle.sd2068.specs.declared.answers.Answered.{Answered}
 use Rattle.sd2068.specs.declared.answers.Stepped.{Stepped}
 use Rattle.sd2068.specs.declared.answers.Started.{Started}
 use Rattle.sd2068.specs.Power.{Power, lostOf}
 use Rattle.sd2068.specs.Pulse.{pulsesOf}
 use Rattle.sd2068.specs.Pin.{pinOf}
-use Rattle.sd2068.specs.Answers.{textOf, numberOf}
 use Rattle.sd2068.specs.Transfer.{startedOf, stoppedOf, byteOf, readOf}
 use Rattle.sd2068.specs.WellFormed.{wellFormedOf}
 
@@ -31,17 +32,10 @@ eventOf c kind byte count =
     (cond (eqb kind 5) (quietOf (pulsesOf c count))
     (quietOf (lostOf c)))))))
 
--- the byte is kind 2's and the count kind 5's, where it is not 0; what a kind does not use is 0
-abbrev pub fieldsOf : ℕ → ℕ → ℕ → Bool
-fieldsOf kind byte count =
-    cond (eqb kind 2) (eqb count 0)
-    (cond (eqb kind 5) (eqb byte 0 && not (eqb count 0))
-    (eqb byte 0 && eqb count 0))
-
 -- the number of the refusal; 0 is none
 unfoldable pub refusalOf : Clock → ℕ → ℕ → ℕ → ℕ
 refusalOf c kind byte count =
-    cond (wellFormedOf c) (cond (ltb kind 7) (cond (fieldsOf kind byte count) 0 3) 2) 1
+    cond (wellFormedOf c) (faultOf kind byte count) 1
 
 -- what a step says: refusal, state, answer, pin
 pub record Told : Type 0 where

@@ -14,8 +14,8 @@ use Rattle.bus.specs.Reads as reads
 use Rattle.alarm.specs.declared.alarm.Alarm.{Alarm}
 use Rattle.countdown.specs.declared.Countdown.{Countdown}
 use Rattle.sd2068.specs.declared.clock.Clock.{Clock}
-use Rattle.sd2068.specs.declared.answers.Answer.{Answer}
-use Rattle.sd2068.specs.declared.answers.Answer.the-variants.{Ack, Nak, Byte}
+use Rattle.events.specs.declared.answer.Answer.{Answer}
+use Rattle.events.specs.declared.answer.Answer.the-variants.{Ack, Nak, Byte}
 use Rattle.sd2068.specs.declared.answers.Answered.{Answered}
 use Rattle.sd2068.specs.Controls.{arstOf}
 use Rattle.sd2068.specs.Clock.{withLatched, withBus}

@@ -11,8 +11,6 @@ mod transfer;
 mod well_formed;
 mod writing;
 
-pub use answers::Answer;
-pub use answers::Refusal;
 pub use answers::Started;
 pub use answers::Stepped;
 pub use clock::Clock;

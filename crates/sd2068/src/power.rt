@@ -1,5 +1,4 @@
 // Power-on and power loss. (rules 2.9 to 2.11 and 8.4)
-use crate::answers::Refusal;
 use crate::answers::Started;
 use crate::clock::Clock;
 use alarm::Alarm;
@@ -9,6 +8,7 @@ use calendar::Time;
 use control::Control;
 use control::Lock;
 use countdown::Countdown;
+use events::Refusal;
 use hand::Hand;
 use registers::clear_time;
 ghost use mathlib.Core.Path.{_≡_};

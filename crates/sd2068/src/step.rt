@@ -1,23 +1,13 @@
 // The single step. (rules 8.1 and 8.3)
-use crate::answers::Answer;
 use crate::answers::Answered;
-use crate::answers::Refusal;
 use crate::answers::Stepped;
 use crate::clock::Clock;
+use events::Answer;
+use events::Refusal;
+use events::fault;
 ghost use mathlib.Core.Path.{_≡_};
-ghost use Rattle.sd2068.specs.Answers.{numberOf};
-ghost use Rattle.sd2068.specs.Step.{quietOf, eventOf, fieldsOf, toldOf, stepped, stepOf};
-
-// Whether unused fields are 0 and pulses are not. (rule 8.3)
-fn fields(kind: u8, byte: u8, count: u16) -> bool
-    ensures { λ r. ⌜ r ≡ fieldsOf kind byte count ⌝ }
-{
-    match kind {
-        2 => count == 0,
-        5 => (byte == 0) & (count != 0),
-        _ => (byte == 0) & (count == 0),
-    }
-}
+ghost use Rattle.events.specs.Refusals.{numberOf};
+ghost use Rattle.sd2068.specs.Step.{quietOf, eventOf, toldOf, stepped, stepOf};
 
 // An event that is not answered.
 fn quiet(clock: Clock) -> Answered
@@ -59,15 +49,11 @@ impl Clock {
         if !self.well_formed() {
             return self.refused(Refusal::State);
         }
-        match kind {
-            0..=6 => {
-                if fields(kind, byte, count) {
-                    told(Refusal::None, self.event(kind, byte, count))
-                } else {
-                    self.refused(Refusal::Field)
-                }
-            }
-            _ => self.refused(Refusal::Kind),
+        let refusal = fault(kind, byte, count);
+        if refusal.number() == 0 {
+            told(refusal, self.event(kind, byte, count))
+        } else {
+            self.refused(refusal)
         }
     }
 }

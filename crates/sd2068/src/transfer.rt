@@ -1,5 +1,4 @@
 // The events of the bus. (rules 6.2 to 6.11)
-use crate::answers::Answer;
 use crate::answers::Answered;
 use crate::clock::Clock;
 use crate::controls::arst;
@@ -8,6 +7,7 @@ use bus::Effect;
 use bus::Phase;
 use bus::Sent;
 use bus::next;
+use events::Answer;
 use registers::bytes;
 ghost use mathlib.Core.Path.{_≡_};
 ghost use Rattle.sd2068.specs.Transfer.{startedOf, stoppedOf, latchedOf, acknowledged, effectedBy, byteOf, renewedOf, readOf};

@@ -17,6 +17,7 @@ use Rattle.control.specs.Lock.{openOf}
 use Rattle.control.specs.Control as control
 use Rattle.bus.specs.Bytes.{heardOf}
 use Rattle.bus.specs.Reads as reads
+use Rattle.events.specs.declared.event.Event.{Event}
 use Rattle.sd2068.specs.declared.clock.Clock.{Clock}
 use Rattle.sd2068.specs.Clock.{withDivider}
 use Rattle.sd2068.specs.Power.{poweredOf, powerOnOf}
@@ -27,12 +28,7 @@ use Rattle.sd2068.specs.Pin.{pinOf}
 use Rattle.sd2068.specs.Transfer.{stoppedOf, byteOf, renewedOf, readOf}
 use Rattle.sd2068.specs.WellFormed.{wellFormedOf}
 use Rattle.sd2068.specs.Step.{eventOf, refusalOf, stepOf}
-
--- an event: kind, byte, count
-record Event : Type 0 where
-  kind : ℕ
-  byte : ℕ
-  count : ℕ
+use Rattle.sd2068.specs.Run.{toldBy, afterOf}
 
 abbrev start : Event
 start = record { kind = 0; byte = 0; count = 0 }
@@ -52,16 +48,11 @@ nak = record { kind = 4; byte = 0; count = 0 }
 abbrev pulses : ℕ → Event
 pulses n = record { kind = 5; byte = 0; count = n }
 
--- the state after events
-after : List Event → Clock → Clock
-after [] c = c
-after (e ∷ es) c = after es (stepOf c (e .kind) (e .byte) (e .count) .state)
-
 -- the answers on the way, each with the pin
 lines : List Event → Clock → List ℕ
 lines [] c = []
 lines (e ∷ es) c =
-    let r = stepOf c (e .kind) (e .byte) (e .count) in
+    let r = toldBy c e in
     (r .answer ++ (r .pin ∷ [])) ++ lines es (r .state)
 
 -- 98h:19:20, weekday 3, 20-12-06, and an empty RAM
@@ -74,12 +65,12 @@ writes a bs = start ∷ byte 0x64 ∷ byte a ∷ (map byte bs ++ (stop ∷ []))
 
 -- INTDE 1, TDS 0, 13h = 3
 running : Clock
-running = after (writes 0x10 (0x80 ∷ []) ++ writes 0x0F (0x84 ∷ []) ++ writes 0x10 (0x84 ∷ []) ++ writes 0x13 (0x03 ∷ [])) sample
+running = afterOf sample (writes 0x10 (0x80 ∷ []) ++ writes 0x0F (0x84 ∷ []) ++ writes 0x10 (0x84 ∷ []) ++ writes 0x13 (0x03 ∷ []))
 
 -- INTDF after each of the counts of pulses
 flags : List ℕ → Clock → List Bool
 flags [] c = []
-flags (n ∷ ns) c = let d = after (pulses n ∷ []) c in d .countdown .flag ∷ flags ns d
+flags (n ∷ ns) c = let d = afterOf c (pulses n ∷ []) in d .countdown .flag ∷ flags ns d
 
 record Cases : Type 0 where
   -- the worked example's answers and pins
@@ -110,10 +101,10 @@ computed =
           ∷ [];
       lengths = map (lengthOf 0x00) (0x02 ∷ 0x3F ∷ 0x42 ∷ 0x7E ∷ 0x7F ∷ 0x15 ∷ 0x44 ∷ 0x40 ∷ 0x41 ∷ []);
       untrimmed = lengthOf 0x01 0x02;
-      swapped = openOf (after (writes 0x0F (0x84 ∷ 0x80 ∷ [])) sample .lock);
-      unlocked = openOf (after (writes 0x10 (0x80 ∷ []) ++ writes 0x0F (0x84 ∷ [])) sample .lock);
+      swapped = openOf (afterOf sample (writes 0x0F (0x84 ∷ 0x80 ∷ [])) .lock);
+      unlocked = openOf (afterOf sample (writes 0x10 (0x80 ∷ []) ++ writes 0x0F (0x84 ∷ [])) .lock);
       first = flags (23 ∷ 1 ∷ []) running;
-      second = flags (31 ∷ 1 ∷ []) (after (pulses 24 ∷ writes 0x0F (0x84 ∷ [])) running);
+      second = flags (31 ∷ 1 ∷ []) (afterOf running (pulses 24 ∷ writes 0x0F (0x84 ∷ [])));
     }
 
 expected : Cases
@@ -130,14 +121,14 @@ expected =
     }
 
 cases : computed ≡ expected
-unfolding computed expected lines after writes flags running sample stepOf eventOf refusalOf wellFormedOf hand.wellOf alarm.wellOf countdown.wellOf lock.wellOf control.wellOf keptOf keptTime keptAlarm keptControl clearOf clearTimeOf powerOnOf poweredOf stoppedOf byteOf heardOf writeOf lock.writtenOf hand.storedOf alarm.storedOf countdown.storedOf control.storedOf ramStoredOf withByteOf readOf reads.readOf renewedOf shownOf registerOf pinOf times pulseOf hand.tickedOf alarm.rungOf countdown.countedOf advanceOf lengthOf changeOf
+unfolding computed expected lines afterOf writes flags running sample stepOf eventOf refusalOf wellFormedOf hand.wellOf alarm.wellOf countdown.wellOf lock.wellOf control.wellOf keptOf keptTime keptAlarm keptControl clearOf clearTimeOf powerOnOf poweredOf stoppedOf byteOf heardOf writeOf lock.writtenOf hand.storedOf alarm.storedOf countdown.storedOf control.storedOf ramStoredOf withByteOf readOf reads.readOf renewedOf shownOf registerOf pinOf times pulseOf hand.tickedOf alarm.rungOf countdown.countedOf advanceOf lengthOf changeOf
 cases = refl
 
 -- a read answers after 16,383 pulses of a transfer, and not after one more
-timely : lines (nak ∷ []) (after (start ∷ byte 0x65 ∷ pulses 16383 ∷ []) sample) ≡ 50 ∷ 48 ∷ 72 ∷ []
-unfolding lines after sample stepOf eventOf refusalOf wellFormedOf hand.wellOf alarm.wellOf countdown.wellOf lock.wellOf control.wellOf keptOf keptTime keptAlarm keptControl clearOf clearTimeOf powerOnOf poweredOf byteOf heardOf readOf reads.readOf renewedOf shownOf registerOf pinOf times pulseOf hand.tickedOf alarm.rungOf countdown.countedOf advanceOf lengthOf changeOf
+timely : lines (nak ∷ []) (afterOf sample (start ∷ byte 0x65 ∷ pulses 16383 ∷ [])) ≡ 50 ∷ 48 ∷ 72 ∷ []
+unfolding lines afterOf sample stepOf eventOf refusalOf wellFormedOf hand.wellOf alarm.wellOf countdown.wellOf lock.wellOf control.wellOf keptOf keptTime keptAlarm keptControl clearOf clearTimeOf powerOnOf poweredOf byteOf heardOf readOf reads.readOf renewedOf shownOf registerOf pinOf times pulseOf hand.tickedOf alarm.rungOf countdown.countedOf advanceOf lengthOf changeOf
 timely = refl
 
-late : lines (nak ∷ []) (after (start ∷ byte 0x65 ∷ pulses 16384 ∷ []) sample) ≡ 70 ∷ 70 ∷ 72 ∷ []
-unfolding lines after sample stepOf eventOf refusalOf wellFormedOf hand.wellOf alarm.wellOf countdown.wellOf lock.wellOf control.wellOf keptOf keptTime keptAlarm keptControl clearOf clearTimeOf powerOnOf poweredOf byteOf heardOf readOf reads.readOf renewedOf shownOf registerOf pinOf times pulseOf hand.tickedOf alarm.rungOf countdown.countedOf advanceOf lengthOf changeOf
+late : lines (nak ∷ []) (afterOf sample (start ∷ byte 0x65 ∷ pulses 16384 ∷ [])) ≡ 70 ∷ 70 ∷ 72 ∷ []
+unfolding lines afterOf sample stepOf eventOf refusalOf wellFormedOf hand.wellOf alarm.wellOf countdown.wellOf lock.wellOf control.wellOf keptOf keptTime keptAlarm keptControl clearOf clearTimeOf powerOnOf poweredOf byteOf heardOf readOf reads.readOf renewedOf shownOf registerOf pinOf times pulseOf hand.tickedOf alarm.rungOf countdown.countedOf advanceOf lengthOf changeOf
 late = refl

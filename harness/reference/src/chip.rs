@@ -129,7 +129,8 @@ impl Chip {
     }
 }
 
-fn check_event(kind: u8, byte: u8, count: u16) -> Result<(), u8> {
+/// An event's refusal by itself: 2 for the kind, then 3 for the fields.
+pub fn check_event(kind: u8, byte: u8, count: u16) -> Result<(), u8> {
     let fields_fit = match kind {
         2 => count == 0,
         5 => byte == 0 && count != 0,

@@ -8,6 +8,7 @@ mod bus;
 mod calendar;
 mod chip;
 mod countdown;
+mod file;
 mod form;
 mod lock;
 mod pin;
@@ -17,7 +18,8 @@ mod second;
 mod tests;
 
 pub use bus::{Phase, Stage, AGE_LIMIT};
-pub use chip::{Answer, Chip, START_BYTES};
+pub use chip::{check_event, Answer, Chip, START_BYTES};
 pub use countdown::tick_length;
+pub use file::{run_file, FileRun, EVENT_BYTES, HEADER_BYTES, LINE_BYTES, LONGEST_FILE};
 pub use pin::{Pin, PIN_PULSE};
 pub use second::length_of_second;

@@ -14,7 +14,7 @@ pub fn random_scripts(seed: u32, count: u32) -> Vec<Script> {
     (0..count).map(|_| random_script(&mut noise)).collect()
 }
 
-fn random_script(noise: &mut Noise) -> Script {
+pub fn random_script(noise: &mut Noise) -> Script {
     let mut author = Author::new(noise);
     if author.noise.percent(1) {
         author.long_countdown();

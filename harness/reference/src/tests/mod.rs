@@ -4,6 +4,7 @@ mod alarm;
 mod bus;
 mod calendar;
 mod countdown;
+mod file;
 mod host;
 mod lock;
 mod marked;

@@ -1,4 +1,4 @@
-//! The worked example of the rules.
+//! The first example of the repository's README.
 
 use crate::script::Script;
 

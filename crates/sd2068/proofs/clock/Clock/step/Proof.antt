@@ -1,6 +1,6 @@
 -- The refusals are the definition's, in its order, and then the event. Assumes nothing.
 use mathlib.Core.Path.{sym, _∙_}
-use borrow.Author.Tests.{lt-ltb, le-ltb, not-true, not-false}
+use borrow.Author.Tests.{ne-eqb, not-true, not-false}
 use Rattle.sd2068.specs.Step.{refusalOf, stepOf}
 use Rattle.sd2068.proofs.clock.Clock.step.Statement.{statement}
 use Rattle.sd2068.proofs.clock.Clock.step.Tie as tie
@@ -15,8 +15,11 @@ returns : tie.Need-returns
 unfolding stepOf refusalOf
 returns c = simp (c .refused .ensures, sym (c .before .before .well-formed .ensures) ∙ not-true _ (c .before .if1 .taken))
 
-fields-requires : tie.Need-fields-requires
-fields-requires c κs = tt
+fault-requires : tie.Need-fault-requires
+fault-requires c κs = tt
+
+number-requires : tie.Need-number-requires
+number-requires c κs = tt
 
 event-requires : tie.Need-event-requires
 event-requires c κs = tt
@@ -27,20 +30,13 @@ told-requires c κs = tt
 refused-requires-2 : tie.Need-refused-requires-2
 refused-requires-2 c κs = tt
 
-refused-requires-3 : tie.Need-refused-requires-3
-refused-requires-3 c κs = tt
-
 returns-2 : tie.Need-returns-2
 unfolding stepOf refusalOf
-returns-2 c = simp (c .told .ensures, c .before .event .ensures, sym (c .before .before .before .before .before .before .well-formed .ensures) ∙ not-false _ (c .before .before .before .before .before .if1 .left), lt-ltb _ _ (c .before .before .before .before .if2 .taken), sym (c .before .before .before .fields .ensures) ∙ c .before .before .if3 .taken)
+returns-2 c = simp (c .told .ensures, c .before .event .ensures, sym (c .before .before .before .before .before .before .well-formed .ensures) ∙ not-false _ (c .before .before .before .before .before .if1 .left), sym (c .before .before .before .before .fault .ensures), sym (c .before .before .before .number .ensures) ∙ c .before .before .if2 .taken)
 
 returns-3 : tie.Need-returns-3
 unfolding stepOf refusalOf
-returns-3 c = simp (c .refused2 .ensures, sym (c .before .before .before .before .before .well-formed .ensures) ∙ not-false _ (c .before .before .before .before .if1 .left), lt-ltb _ _ (c .before .before .before .if2 .taken), sym (c .before .before .fields .ensures) ∙ c .before .if3 .left)
-
-returns-4 : tie.Need-returns-4
-unfolding stepOf refusalOf
-returns-4 c = simp (c .refused3 .ensures, sym (c .before .before .before .well-formed .ensures) ∙ not-false _ (c .before .before .if1 .left), le-ltb _ _ (c .before .if2 .left))
+returns-3 c = simp (c .refused2 .ensures, sym (c .before .before .before .before .before .well-formed .ensures) ∙ not-false _ (c .before .before .before .before .if1 .left), sym (c .before .before .before .fault .ensures), ← c .before .before .number .ensures, ne-eqb _ _ (c .before .if2 .left))
 
 pub step-spec : {M : Type 1} → statement M
 step-spec =
@@ -49,11 +45,10 @@ step-spec =
     well-formed-requires
     refused-requires
     returns
-    fields-requires
+    fault-requires
+    number-requires
     event-requires
     told-requires
     refused-requires-2
-    refused-requires-3
     returns-2
-    returns-3
-    returns-4)
+    returns-3)

@@ -1,0 +1,113 @@
+-- What a run hands back: the refusal that is due, or the lines of events that are all taken. Assumes nothing.
+use mathlib.Core.Path.{_≡_, refl, sym, ap, _∙_, subst}
+use mathlib.Core.Bool.{Bool, true, false, cond}
+use mathlib.Core.List.{List, [], _∷_, _++_}
+use Prim.Native.Nat.{ℕ, _+_, _*_}
+use native.Mathlib.Omega.{arith}
+use lib.Dec.{eqb}
+use lib.ListN.{length, take, drop}
+use lib.Seq.{take-at, drop-at}
+use borrow.Author.Tests.{eqb-true, eqb-false}
+use Rattle.events.specs.declared.event.Event.{Event}
+use Rattle.sd2068.specs.declared.clock.Clock.{Clock}
+use Rattle.sd2068.specs.Power as power
+use Rattle.sd2068.specs.Power.{Power, powerOnOf}
+use Rattle.sd2068.specs.Step.{Told}
+use Rattle.sd2068.specs.Run.{toldBy}
+use Rattle.sd2068.proofs.WellLaws.{Well, power-on-well, step-well, step-taken}
+use Rattle.script.specs.declared.header.Header.{Header}
+use Rattle.script.specs.Header.{headerOf}
+use Rattle.script.specs.Checks.{Found, foundAt, faultIn, firstOf, startBytesOf, eventsOf, checkedOf}
+use Rattle.script.specs.Rows.{Due}
+use Rattle.script.specs.Lines.{linesOf}
+use Rattle.script.specs.File.{Run, goodOf, refusedOf, runOf}
+use Rattle.script.proofs.PartLaws.{ends, section-length}
+use Rattle.script.proofs.FileLaws.{good, powered, power-on, events-count, run-accepted}
+use Rattle.script.proofs.LineLaws.{lines-length}
+use Rattle.script.proofs.RowLaws.{given, only}
+
+-- each event is taken from the state that the one before it left
+pub data Taken : Clock → List Event → Type 0 where
+  none : {c : Clock} → Taken c []
+  more : {c : Clock} {e : Event} {es : List Event} → toldBy c e .refusal ≡ 0 → Taken (toldBy c e .state) es → Taken c (e ∷ es)
+
+-- an event at fault would be found
+sound : (e : Event) (rest : Found) (i : ℕ) (t : Bool) → eqb (faultIn e) 0 ≡ t → (cond t rest (foundAt (faultIn e) i)) .refusal ≡ 0 → (faultIn e ≡ 0) × (rest .refusal ≡ 0)
+sound e rest i true p h = (eqb-true (faultIn e) 0 p, h)
+sound e rest i false p h = absurd (eqb-false (faultIn e) 0 p h)
+
+pub taken : (c : Clock) → Well c → (es : List Event) (i : ℕ) → firstOf es i .refusal ≡ 0 → Taken c es
+unfolding firstOf
+taken c w [] i h = Taken.none
+taken c w (e ∷ es) i h =
+    let s = sound e (firstOf es (i + 1)) i (eqb (faultIn e) 0) refl h in
+    Taken.more (ap (λ (t : Told). t .refusal) (step-taken c w (e .kind) (e .byte) (e .count) (s .0)))
+    (taken (toldBy c e .state) (step-well c w (e .kind) (e .byte) (e .count)) es (i + 1) (s .1))
+
+pub file-taken : (file : List ℕ) (room : ℕ) → checkedOf file room .refusal ≡ 0 → Taken (power.startOf (startBytesOf file (headerOf file))) (eventsOf file (headerOf file))
+file-taken file room n =
+    let h = headerOf file in
+    let s = startBytesOf file h in
+    let g = good file room n in
+    let long = section-length file (h .start) 19 (ends h (length file) (g .sections) .start) in
+    let on : powerOnOf s .state ≡ power.startOf s = ap (λ (p : Power). p .state) (power-on s long) ∙ ap (λ (t : Bool). powered s t .state) (g .clear) in
+    taken (power.startOf s) (subst Well on (power-on-well s)) (eventsOf file h) 0 (g .events)
+
+-- a file that is not refused has index 0
+due-none : {file : List ℕ} {room n i : ℕ} → Due file room n i → n ≡ 0 → i ≡ 0
+due-none (Due.due8 r) e = refl
+due-none (Due.due4 n8 r) e = refl
+due-none (Due.due5 n8 n4 r) e = refl
+due-none (Due.due6 n8 n4 n5 r) e = refl
+due-none (Due.due2 i w h b r) e = omega arith
+due-none (Due.due3 i w h b n r) e = omega arith
+due-none (Due.due7 w s r) e = refl
+due-none (Due.due0 w s n) e = refl
+
+module _ (file out : List ℕ) where
+  abbrev checks : Found
+  checks = checkedOf file (length out)
+
+  told-by : (t : Bool) → eqb (checks .refusal) 0 ≡ t → (r : Run) → r ≡ cond t (goodOf file (headerOf file) out) (refusedOf checks out) → (r .refusal ≡ checks .refusal) × (r .index ≡ checks .index)
+  unfolding goodOf refusedOf
+  told-by true e r p =
+      let zero = eqb-true (checks .refusal) 0 e in
+      (ap (λ (m : Run). m .refusal) p ∙ sym zero, ap (λ (m : Run). m .index) p ∙ sym (due-none (given file (length out)) zero))
+  told-by false e r p = (ap (λ (m : Run). m .refusal) p, ap (λ (m : Run). m .index) p)
+
+  told : (runOf file out .refusal ≡ checks .refusal) × (runOf file out .index ≡ checks .index)
+  unfolding runOf
+  told = told-by (eqb (checks .refusal) 0) refl (runOf file out) refl
+
+  -- a run's refusal is the one that is due, and no other
+  pub run-due : Due file (length out) (runOf file out .refusal) (runOf file out .index)
+  run-due =
+      subst (λ (f : Found). Due file (length out) (f .refusal) (f .index)) {x = checks} {y = foundAt (runOf file out .refusal) (runOf file out .index)}
+      (λ i. foundAt (sym (told .0) i) (sym (told .1) i))
+      (given file (length out))
+
+  pub run-only : {n i : ℕ} → Due file (length out) n i → (runOf file out .refusal ≡ n) × (runOf file out .index ≡ i)
+  run-only d = (told .0 ∙ only d .0, told .1 ∙ only d .1)
+
+  -- the first five bytes an event are the lines, and the others stay
+  module _ (n : checks .refusal ≡ 0) where
+    abbrev header : Header
+    header = headerOf file
+
+    abbrev lines : List ℕ
+    lines = linesOf (power.startOf (startBytesOf file header)) (eventsOf file header)
+
+    output : runOf file out .output ≡ lines ++ drop (header .count * 5) out
+    unfolding goodOf
+    output = ap (λ (m : Run). m .output) (run-accepted file out n)
+
+    size : length lines ≡ header .count * 5
+    size =
+        lines-length (power.startOf (startBytesOf file header)) (eventsOf file header)
+        ∙ ap (λ (k : ℕ). k * 5) (events-count file header out (good file (length out) n))
+
+    pub run-lines : take (header .count * 5) (runOf file out .output) ≡ lines
+    run-lines = ap (take (header .count * 5)) output ∙ take-at lines (drop (header .count * 5) out) (header .count * 5) size
+
+    pub run-rest : drop (header .count * 5) (runOf file out .output) ≡ drop (header .count * 5) out
+    run-rest = ap (drop (header .count * 5)) output ∙ drop-at lines (drop (header .count * 5) out) (header .count * 5) size

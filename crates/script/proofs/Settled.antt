@@ -1,0 +1,27 @@
+-- The public contract of this crate settles the result and the output. Assumes nothing.
+use mathlib.Core.Path.{_≡_, sym, ap, _∙_}
+use mathlib.Core.List.{List}
+use Prim.Native.Nat.{ℕ}
+use contract.Lifetimes.{Lfts}
+use denote.Ref.{now}
+use denote.Triple.Clauses.{AtExit}
+use borrow.Fn.Kinds.{Dens, resT, endedOf}
+use Rattle.events.proofs.Settled.{refusal-back, refusal-again}
+use Rattle.script.specs.declared.file.Ran.{Ran}
+use Rattle.script.specs.File.{Run, ran}
+use Rattle.script.proofs.file.run.Kinds as run-kinds
+use Rattle.script.proofs.file.run.Reads as run-reads
+
+-- a result can be had back from what it says
+abbrev ran-back : Run → Ran
+ran-back m = record { refusal = refusal-back (m .refusal); index = m .index; count = m .count; clock = m .state }
+
+ran-again : (x : Ran) (out : List ℕ) → ran-back (ran x out) ≡ x
+ran-again x out =
+    λ i. record { refusal = refusal-again (x .refusal) i; index = x .index; count = x .count; clock = x .clock }
+
+-- any two results and outputs that the contract allows at the same arguments are equal
+pub run-settles : (κs : Lfts 2) (a : Dens κs run-kinds.ps) (e f : AtExit (endedOf 2 run-kinds.ps run-kinds.r) κs) (x y : resT run-kinds.r κs .Denot) → run-reads.Post κs a x e → run-reads.Post κs a y f → (x ≡ y) × (now (e .1 .0) ≡ now (f .1 .0))
+run-settles κs a e f x y p q =
+    let same : ran x (now (e .1 .0)) ≡ ran y (now (f .1 .0)) = p ∙ sym q in
+    (sym (ran-again x (now (e .1 .0))) ∙ ap ran-back same ∙ ran-again y (now (f .1 .0)), ap (λ (m : Run). m .output) same)

@@ -1,0 +1,100 @@
+-- A file that is not refused has its sections and its room. Assumes nothing.
+use mathlib.Core.Path.{ap, _∙_}
+use lib.ListN.{length}
+use Rattle.script.specs.declared.header.Header.{Header}
+use Rattle.script.specs.File.{goodOf}
+use Rattle.script.proofs.PartLaws.{ends}
+use Rattle.script.proofs.FileLaws.{Good, good, good-by, events-room, start-taken, ran-good}
+use borrow.Author.Needs.{needs}
+use Rattle.script.proofs.file.run_good.Statement.{statement}
+use Rattle.script.proofs.file.run_good.Tie as tie
+
+-- what the file has, at its header
+good-at : (c : tie.After-header-of) → Good (c .before .before .before .args .file .now) (c .header-of .result) (length (c .before .before .before .args .out .now))
+good-at c = good-by _ _ _ (c .header-of .ensures) (c .before .before .before .pre)
+
+header-of-requires : tie.Need-header-of-requires
+header-of-requires c κs = good _ _ (c .before .before .pre) .header
+
+cast-start : tie.Need-cast-start
+cast-start c = search needs
+
+add-end : tie.Need-add-end
+add-end c = search needs
+
+sub-power-on : tie.Need-sub-power-on
+sub-power-on c = search needs
+
+part-power-on-start : tie.Need-part-power-on-start
+part-power-on-start c = search needs
+
+part-power-on-end : tie.Need-part-power-on-end
+part-power-on-end c = let e = ends _ _ (good-at (c .before) .sections) .start in search needs
+
+power-on-requires : tie.Need-power-on-requires
+power-on-requires c κs = tt
+
+cast-count : tie.Need-cast-count
+cast-count c = search needs
+
+cast-at : tie.Need-cast-at
+cast-at c = search needs
+
+mul-last : tie.Need-mul-last
+mul-last c = search needs
+
+add-last : tie.Need-add-last
+add-last c = search needs
+
+sub-run-events : tie.Need-sub-run-events
+sub-run-events c = search needs
+
+part-run-events-start : tie.Need-part-run-events-start
+part-run-events-start c = search needs
+
+part-run-events-end : tie.Need-part-run-events-end
+part-run-events-end c =
+    let head = c .before .before .before .before .before .before in
+    let e = ends _ _ (good-at head .sections) .events in
+    search needs
+
+run-events-requires : tie.Need-run-events-requires
+run-events-requires c κs =
+    let head = c .before .before .before .before .before .before .before .before in
+    let args = head .before .before .before .args in
+    events-room (args .file .now) (head .header-of .result) (args .out .now) (good-at head)
+
+same-length : tie.Need-same-length
+same-length c = search needs
+
+returns : tie.Need-returns
+returns c =
+    let run = c .before .before in
+    let on = run .before .before .before .before .before .before in
+    let head = on .before .before .before in
+    let args = head .before .before .before .args in
+    let began = start-taken (args .file .now) (head .header-of .result) (args .out .now) (good-at head) (on .power-on .result) (on .power-on .ensures) in
+    ran-good (args .file .now) (head .header-of .result) (args .out .now) (good-at head) (on .power-on .result .clock) (run .run-events .result) _ began (run .run-events .ensures)
+    ∙ ap (λ (h : Header). goodOf (args .file .now) h (args .out .now)) (head .header-of .ensures)
+
+pub run-good-spec : {M : Type 1} → statement M
+run-good-spec =
+    tie.close
+    (tie.spec
+    header-of-requires
+    cast-start
+    add-end
+    sub-power-on
+    part-power-on-start
+    part-power-on-end
+    power-on-requires
+    cast-count
+    cast-at
+    mul-last
+    add-last
+    sub-run-events
+    part-run-events-start
+    part-run-events-end
+    run-events-requires
+    same-length
+    returns)

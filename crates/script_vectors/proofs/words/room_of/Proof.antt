@@ -1,0 +1,51 @@
+-- The index stays within the word. Assumes nothing.
+use Prim.Native.Nat.{_-_, _≤_}
+use lib.ListN.{length}
+use borrow.Author.Needs.{needs}
+use Rattle.script_vectors.proofs.words.room_of.Statement.{statement}
+use Rattle.script_vectors.proofs.words.room_of.Tie as tie
+
+abbrev Inv-loop : tie.InvT-loop
+Inv-loop word room₀ i₀ room i = i ≤ length word
+
+abbrev μ-loop : tie.MeasureT-loop
+μ-loop word room₀ i₀ room i = length word - i
+
+returns : tie.Need-returns Inv-loop μ-loop
+returns c = tt
+
+loop-holds : tie.Need-loop-holds Inv-loop μ-loop
+loop-holds c = search needs
+
+shared-slice-read-with-digit : tie.Need-shared-slice-read-with-digit Inv-loop μ-loop
+shared-slice-read-with-digit c = search needs
+
+with-digit-requires : tie.Need-with-digit-requires Inv-loop μ-loop
+with-digit-requires c κs = tt
+
+add-i : tie.Need-add-i Inv-loop μ-loop
+add-i c = search needs
+
+loop-less : tie.Need-loop-less Inv-loop μ-loop
+loop-less c = search needs
+
+loop-again : tie.Need-loop-again Inv-loop μ-loop
+loop-again c = search needs
+
+returns-2 : tie.Need-returns-2 Inv-loop μ-loop
+returns-2 c = tt
+
+pub room-of-spec : {M : Type 1} → statement M
+room-of-spec =
+    tie.close
+    (tie.spec
+    Inv-loop
+    μ-loop
+    returns
+    loop-holds
+    shared-slice-read-with-digit
+    with-digit-requires
+    add-i
+    loop-less
+    loop-again
+    returns-2)
