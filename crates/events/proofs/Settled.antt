@@ -12,8 +12,8 @@ use Rattle.events.specs.declared.answer.Answer.{Answer}
 use Rattle.events.specs.declared.answer.Answer.the-variants as answer
 use Rattle.events.specs.declared.refusal.Refusal.{Refusal}
 use Rattle.events.specs.declared.refusal.Refusal.the-variants as refusal
-use Rattle.events.specs.Answers.{digitOf, textOf}
-use Rattle.events.specs.Refusals.{numberOf}
+use Rattle.events.specs.Answer.{digitOf, textOf}
+use Rattle.events.specs.Refusal.{numberOf}
 use Rattle.events.proofs.answer.Answer.text.Kinds as text-kinds
 use Rattle.events.proofs.answer.Answer.text.Reads as text-reads
 use Rattle.events.proofs.refusal.Refusal.number.Kinds as number-kinds

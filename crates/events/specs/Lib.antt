@@ -1,2 +1,2 @@
-pub mod Answers
-pub mod Refusals
+pub mod Answer
+pub mod Refusal

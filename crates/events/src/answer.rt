@@ -1,7 +1,7 @@
 // What the wire shows of an event. (rule 8.1)
 ghost use mathlib.Core.Path.{_≡_};
 ghost use Prim.Native.Nat.{_<_};
-ghost use Rattle.events.specs.Answers.{digitOf, textOf};
+ghost use Rattle.events.specs.Answer.{digitOf, textOf};
 
 pub enum Answer {
     Quiet,

@@ -1,6 +1,6 @@
 // The refusals, and those that an event's own fields earn. (rules 8.1 and 8.3)
 ghost use mathlib.Core.Path.{_≡_};
-ghost use Rattle.events.specs.Refusals.{numberOf, fieldsOf, faultOf};
+ghost use Rattle.events.specs.Refusal.{numberOf, fieldsOf, faultOf};
 
 // The rows of the refusals' table; State to Field are a step's, Section and Start a power-on's, the rest a file's alone.
 pub enum Refusal {

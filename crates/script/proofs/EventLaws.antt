@@ -7,7 +7,7 @@ use native.Mathlib.Omega.{arith}
 use lib.Dec.{eqb}
 use lib.ListN.{length, getD, drop, length-take, length-drop}
 use borrow.Author.Count.{below-none, below-more}
-use Rattle.events.specs.Refusals.{faultOf, fieldsOf}
+use Rattle.events.specs.Refusal.{faultOf, fieldsOf}
 use Rattle.script.specs.Header.{headerOf, wordOf}
 use Rattle.script.specs.Sections.{sectionOf}
 use Rattle.script.specs.Event.{eventAt, eventsFrom, eventsIn}

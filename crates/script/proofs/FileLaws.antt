@@ -4,12 +4,11 @@ use mathlib.Core.Bool.{Bool, true, false, cond}
 use mathlib.Core.List.{List, _++_}
 use Prim.Native.Nat.{ℕ, _+_, _-_, _*_, _/_, _≤_, _<_}
 use native.Mathlib.Omega.{arith}
-use lib.Dec.{eqb, ltb}
 use lib.ListN.{length, take, drop}
-use borrow.Author.Tests.{ltb-false, lt-ltb, le-ltb, eq-eqb, ne-eqb, eqb-false, eqb-true}
+use borrow.Author.Tests.{lt-ltb, le-ltb, eq-eqb, ne-eqb}
 use Rattle.registers.specs.Fixed.{clearTimeOf}
 use Rattle.events.specs.declared.event.Event.{Event}
-use Rattle.events.specs.Refusals.{numberOf}
+use Rattle.events.specs.Refusal.{numberOf}
 use Rattle.sd2068.specs.declared.clock.Clock.{Clock}
 use Rattle.sd2068.specs.declared.answers.Started.{Started}
 use Rattle.sd2068.specs.Power as power
@@ -20,21 +19,23 @@ use Rattle.script.specs.declared.header.Header.{Header}
 use Rattle.script.specs.Header.{headerOf}
 use Rattle.script.specs.Sections.{sectionsOf, sectionOf}
 use Rattle.script.specs.Event.{eventsIn}
-use Rattle.script.specs.Checks.{Found, foundAt, none, orElse, firstOf, startBytesOf, eventsOf, placedOf, checkedOf}
+use Rattle.script.specs.Checks.{Found, foundAt, none, firstOf, startBytesOf, eventsOf, placedOf, checkedOf}
 use Rattle.script.specs.Lines.{linesOf}
 use Rattle.script.specs.File.{Run, eventsRun, goodOf, refusedOf, runOf}
 use Rattle.script.proofs.SearchLaws.{events-length}
 use Rattle.script.proofs.PartLaws.{ends, part, section-length}
-
-not-refused : (n : ℕ) → 0 < n → _≡_ {A = ℕ} n 0 → ⊥
-not-refused n h e = omega arith
+use Rattle.script.proofs.Telling.{less, either, is-true}
+use Rattle.script.proofs.SectionLaws.{row5}
+use Rattle.script.proofs.StartLaws.{row6}
+use Rattle.script.proofs.EventLaws.{First, first, one-first}
+use Rattle.script.proofs.RowLaws.{given, not-zero, clean}
 
 -- a power-on from 19 bytes is refused for the time alone
 module _ (s : List ℕ) where
-  abbrev pub powered : Bool → Power
+  abbrev powered : Bool → Power
   powered t = cond t (record { refusal = 0; state = power.startOf s }) (record { refusal = 6; state = zeroStart })
 
-  pub power-on : length s ≡ 19 → powerOnOf s ≡ powered (clearTimeOf (startTime s))
+  power-on : length s ≡ 19 → powerOnOf s ≡ powered (clearTimeOf (startTime s))
   unfolding powerOnOf
   power-on long = simp (eq-eqb (length s) 19 long)
 
@@ -44,7 +45,12 @@ module _ (s : List ℕ) where
 
   taken-by : (t : Bool) → powered t .refusal ≡ 0 → t ≡ true
   taken-by true e = refl
-  taken-by false e = absurd (not-refused 6 (omega arith) e)
+  taken-by false e = absurd (not-zero 6 (omega arith) e)
+
+-- the time is clear, and the events have been searched
+pub record Searched (file : List ℕ) (h : Header) (f : Found) : Type 0 where
+  pub clear : clearTimeOf (startTime (startBytesOf file h)) ≡ true
+  pub first : f ≡ firstOf (eventsOf file h) 0
 
 -- what the checks after the sections come to, test by test
 module _ (file : List ℕ) (h : Header) (room : ℕ) (e : sectionsOf h (length file) ≡ true) where
@@ -65,22 +71,22 @@ module _ (file : List ℕ) (h : Header) (room : ℕ) (e : sectionsOf h (length f
     start-good good =
         taken-by (startBytesOf file h) (clearTimeOf (startTime (startBytesOf file h))) (sym (ap (λ (p : Power). p .refusal) start-on) ∙ good)
 
-    module _ (good : numberOf (r .refusal) ≡ 0) (f : Found) (first : f ≡ firstOf (eventsIn (take (h .events + h .count * 4 - h .events) (drop (h .events) file))) 0) where
-      first-in : f ≡ firstOf (eventsOf file h) 0
-      first-in = first ∙ ap (λ (s : List ℕ). firstOf (eventsIn s) 0) (part file (h .events) (h .count * 4))
+    pub searched : numberOf (r .refusal) ≡ 0 → (f : Found) → f ≡ firstOf (eventsIn (take (h .events + h .count * 4 - h .events) (drop (h .events) file))) 0 → Searched file h f
+    searched good f first =
+        record { clear = start-good good; first = first ∙ ap (λ (s : List ℕ). firstOf (eventsIn s) 0) (part file (h .events) (h .count * 4)) }
 
-      pub event-bad : (f .refusal ≡ 0 → ⊥) → f ≡ placedOf file h room
-      unfolding placedOf
-      event-bad bad = simp (start-good good, ← first-in, ne-eqb (f .refusal) 0 bad)
+module _ {file : List ℕ} {h : Header} {f : Found} (s : Searched file h f) (room : ℕ) where
+  pub event-bad : (f .refusal ≡ 0 → ⊥) → f ≡ placedOf file h room
+  unfolding placedOf
+  event-bad bad = simp (s .clear, ← s .first, ne-eqb (f .refusal) 0 bad)
 
-      module _ (sound : f .refusal ≡ 0) where
-        pub room-bad : room < h .count * 5 → foundAt 7 0 ≡ placedOf file h room
-        unfolding placedOf
-        room-bad small = simp (start-good good, ← first-in, eq-eqb (f .refusal) 0 sound, lt-ltb room (h .count * 5) small)
+  pub room-bad : f .refusal ≡ 0 → room < h .count * 5 → foundAt 7 0 ≡ placedOf file h room
+  unfolding placedOf
+  room-bad sound small = simp (s .clear, ← s .first, eq-eqb (f .refusal) 0 sound, lt-ltb room (h .count * 5) small)
 
-        pub room-good : h .count * 5 ≤ room → none ≡ placedOf file h room
-        unfolding placedOf
-        room-good enough = simp (start-good good, ← first-in, eq-eqb (f .refusal) 0 sound, le-ltb room (h .count * 5) enough)
+  pub room-good : f .refusal ≡ 0 → h .count * 5 ≤ room → none ≡ placedOf file h room
+  unfolding placedOf
+  room-good sound enough = simp (s .clear, ← s .first, eq-eqb (f .refusal) 0 sound, le-ltb room (h .count * 5) enough)
 
 -- what a file that is not refused has
 pub record Good (file : List ℕ) (h : Header) (room : ℕ) : Type 0 where
@@ -90,43 +96,24 @@ pub record Good (file : List ℕ) (h : Header) (room : ℕ) : Type 0 where
   pub events : firstOf (eventsOf file h) 0 .refusal ≡ 0
   pub enough : h .count * 5 ≤ room
 
--- of two, neither is a refusal where the first of them is none
-neither : (f g : Found) (t : Bool) → eqb (f .refusal) 0 ≡ t → (cond t g f) .refusal ≡ 0 → (f .refusal ≡ 0) × (g .refusal ≡ 0)
-neither f g true e h = (eqb-true (f .refusal) 0 e, h)
-neither f g false e h = absurd (eqb-false (f .refusal) 0 e h)
-
-abbrev Tests : Bool → Bool → Bool → Bool → Found → Bool → Found
-Tests long short sections clear f small =
-    cond long (foundAt 8 0)
-    (cond short (foundAt 4 0)
-    (cond sections (cond clear (orElse f (cond small (foundAt 7 0) none)) (foundAt 6 0)) (foundAt 5 0)))
-
-passed : (long short sections clear : Bool) (f : Found) (small : Bool) → Tests long short sections clear f small .refusal ≡ 0 → (short ≡ false) × ((sections ≡ true) × ((clear ≡ true) × ((f .refusal ≡ 0) × (small ≡ false))))
-passed true short sections clear f small h = absurd (not-refused 8 (omega arith) h)
-passed false true sections clear f small h = absurd (not-refused 4 (omega arith) h)
-passed false false false clear f small h = absurd (not-refused 5 (omega arith) h)
-passed false false true false f small h = absurd (not-refused 6 (omega arith) h)
-passed false false true true f true h = absurd (not-refused 7 (omega arith) (neither f (foundAt 7 0) (eqb (f .refusal) 0) refl h .1))
-passed false false true true f false h = (refl, (refl, (refl, (neither f none (eqb (f .refusal) 0) refl h .0, refl))))
-
+-- no row holds of it
 pub good : (file : List ℕ) (room : ℕ) → checkedOf file room .refusal ≡ 0 → Good file (headerOf file) room
-unfolding checkedOf placedOf
 good file room n =
-    let h = headerOf file in
-    let p = passed (ltb 16384 (length file)) (ltb (length file) 8) (sectionsOf h (length file)) (clearTimeOf (startTime (startBytesOf file h))) (firstOf (eventsOf file h) 0) (ltb room (h .count * 5)) n in
+    let c = clean (given file room) n in
+    let w = c .before in
     record {
-      header = ltb-false (length file) 8 (p .0);
-      sections = p .1 .0;
-      clear = p .1 .1 .0;
-      events = p .1 .1 .1 .0;
-      enough = ltb-false room (h .count * 5) (p .1 .1 .1 .1);
+      header = either (less (length file) 8) (λ short. absurd (w .not4 short)) (λ long. long);
+      sections = is-true (row5 file) (w .not5);
+      clear = is-true (row6 file) (w .not6);
+      events = ap (λ (f : Found). f .refusal) (one-first (first file (w .not5)) (First.clean (c .sound)));
+      enough = either (less room (headerOf file .count * 5)) (λ (small : room < headerOf file .count * 5). absurd (c .enough (omega arith))) (λ enough. enough);
     }
 
 pub good-by : (file : List ℕ) (h : Header) (room : ℕ) → h ≡ headerOf file → checkedOf file room .refusal ≡ 0 → Good file h room
 good-by file h room e n = subst (λ (k : Header). Good file k room) (sym e) (good file room n)
 
 -- from the start bytes through all events
-module _ (file : List ℕ) (h : Header) (out : List ℕ) (g : Good file h (length out)) where
+module _ (file : List ℕ) (h : Header) (room : ℕ) (g : Good file h room) where
   events-end : h .events + h .count * 4 ≤ length file
   events-end = ends h (length file) (g .sections) .events
 
@@ -138,21 +125,24 @@ module _ (file : List ℕ) (h : Header) (out : List ℕ) (g : Good file h (lengt
       let n : length s / 4 ≡ h .count = omega arith in
       events-length s 0 (length s / 4) ∙ n
 
-  pub events-room : length (take (h .events + h .count * 4 - h .events) (drop (h .events) file)) / 4 * 5 ≤ length out
+  pub events-room : length (take (h .events + h .count * 4 - h .events) (drop (h .events) file)) / 4 * 5 ≤ room
   events-room =
       let l = ap length (part file (h .events) (h .count * 4)) ∙ section-length file (h .events) (h .count * 4) events-end in
       let e = g .enough in
       omega arith
 
-  pub start-taken : (r : Started) → started r ≡ powerOnOf (take (h .start + 19 - h .start) (drop (h .start) file)) → r .clock ≡ power.startOf (startBytesOf file h)
-  start-taken r on =
+  pub start-state : powerOnOf (startBytesOf file h) .state ≡ power.startOf (startBytesOf file h)
+  start-state =
       let s = startBytesOf file h in
-      ap (λ (p : Power). p .state) (start-on file h (length out) (g .sections) r on)
+      ap (λ (p : Power). p .state) (power-on s (start-nineteen file h room (g .sections)))
       ∙ ap (λ (t : Bool). powered s t .state) (g .clear)
 
-  pub ran-good : (c last : Clock) (exit : List ℕ) → c ≡ power.startOf (startBytesOf file h) → eventsRun c (eventsIn (take (h .events + h .count * 4 - h .events) (drop (h .events) file))) out last exit → _≡_ {A = Run} (record { refusal = 0; index = 0; count = h .count; state = last; output = exit }) (goodOf file h out)
+  pub start-taken : (r : Started) → started r ≡ powerOnOf (take (h .start + 19 - h .start) (drop (h .start) file)) → r .clock ≡ power.startOf (startBytesOf file h)
+  start-taken r on = ap (λ (p : Power). p .state) (on ∙ ap powerOnOf (part file (h .start) 19)) ∙ start-state
+
+  pub ran-good : (out : List ℕ) (c last : Clock) (exit : List ℕ) → c ≡ power.startOf (startBytesOf file h) → eventsRun c (eventsIn (take (h .events + h .count * 4 - h .events) (drop (h .events) file))) out last exit → _≡_ {A = Run} (record { refusal = 0; index = 0; count = h .count; state = last; output = exit }) (goodOf file h out)
   unfolding goodOf
-  ran-good c last exit begun run =
+  ran-good out c last exit begun run =
       let es = eventsOf file h in
       let in-part = ap eventsIn (part file (h .events) (h .count * 4)) in
       let state : last ≡ afterOf (power.startOf (startBytesOf file h)) es = run .0 ∙ ap (afterOf c) in-part ∙ ap (λ (d : Clock). afterOf d es) begun in

@@ -1,11 +1,11 @@
-pub mod SearchLaws
-pub mod PartLaws
-pub mod LineLaws
-pub mod FileLaws
 pub mod Telling
 pub mod SectionLaws
 pub mod StartLaws
 pub mod EventLaws
 pub mod RowLaws
+pub mod SearchLaws
+pub mod PartLaws
+pub mod LineLaws
+pub mod FileLaws
 pub mod RunLaws
 pub mod Settled

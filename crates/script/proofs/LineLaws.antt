@@ -13,7 +13,7 @@ use Rattle.control.specs.Pin.{letterOf}
 use Rattle.events.specs.declared.answer.Answer.{Answer}
 use Rattle.events.specs.declared.answer.Answer.the-variants.{Quiet, Ack, Nak, Byte}
 use Rattle.events.specs.declared.event.Event.{Event}
-use Rattle.events.specs.Answers.{textOf}
+use Rattle.events.specs.Answer.{textOf}
 use Rattle.sd2068.specs.declared.clock.Clock.{Clock}
 use Rattle.sd2068.specs.declared.answers.Answered.{Answered}
 use Rattle.sd2068.specs.declared.answers.Stepped.{Stepped}

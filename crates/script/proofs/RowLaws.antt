@@ -1,5 +1,5 @@
 -- A refusal is given exactly when its row holds and none before it. Assumes nothing.
-use mathlib.Core.Path.{_≡_, ap, _∙_}
+use mathlib.Core.Path.{_≡_, refl, ap, _∙_}
 use mathlib.Core.Bool.{cond}
 use mathlib.Core.List.{List}
 use Prim.Native.Nat.{ℕ, _*_, _≤_, _<_}
@@ -9,11 +9,14 @@ use lib.ListN.{length}
 use Rattle.script.specs.Header.{headerOf}
 use Rattle.script.specs.Sections.{sectionsOf}
 use Rattle.script.specs.Checks.{Found, foundAt, none, orElse, firstOf, eventsOf, placedOf, checkedOf}
-use Rattle.script.specs.Rows.{Row4, Row7, Row8, Whole, Due}
+use Rattle.script.specs.Rows.{headerWord, Row4, Row7, Row8, Sound, Whole, Due}
 use Rattle.script.proofs.Telling.{Tells, less, turned, chosen, is-true, is-false}
 use Rattle.script.proofs.SectionLaws.{row5}
 use Rattle.script.proofs.StartLaws.{row6}
 use Rattle.script.proofs.EventLaws.{Fault, First, first, one-first}
+
+pub not-zero : (n : ℕ) → 0 < n → _≡_ {A = ℕ} n 0 → ⊥
+not-zero n h e = omega arith
 
 module _ (file : List ℕ) (room : ℕ) where
   row8 : Tells (Row8 file) (Row8 file → ⊥) (ltb 16384 (length file))
@@ -75,3 +78,20 @@ module _ (file : List ℕ) (room : ℕ) where
 
 pub only : {file : List ℕ} {room n i : ℕ} → Due file room n i → (checkedOf file room .refusal ≡ n) × (checkedOf file room .index ≡ i)
 only {file} {room} d = (ap (λ (f : Found). f .refusal) (settled file room d), ap (λ (f : Found). f .index) (settled file room d))
+
+-- where 0 is due no row holds, and its index is 0
+pub record Clean (file : List ℕ) (room i : ℕ) : Type 0 where
+  pub index : i ≡ 0
+  pub before : Whole file
+  pub sound : (j : ℕ) → j < headerWord file 0 → Sound file j
+  pub enough : Row7 file room → ⊥
+
+pub clean : {file : List ℕ} {room n i : ℕ} → Due file room n i → n ≡ 0 → Clean file room i
+clean (Due.due8 r) e = absurd (not-zero 8 (omega arith) e)
+clean (Due.due4 n8 r) e = absurd (not-zero 4 (omega arith) e)
+clean (Due.due5 n8 n4 r) e = absurd (not-zero 5 (omega arith) e)
+clean (Due.due6 n8 n4 n5 r) e = absurd (not-zero 6 (omega arith) e)
+clean (Due.due2 i w h b r) e = absurd (not-zero 2 (omega arith) e)
+clean (Due.due3 i w h b n r) e = absurd (not-zero 3 (omega arith) e)
+clean (Due.due7 w s r) e = absurd (not-zero 7 (omega arith) e)
+clean (Due.due0 w s n) e = record { index = refl; before = w; sound = s; enough = n }

@@ -2,7 +2,7 @@
 use mathlib.Core.Path.{_≡_, refl, sym, ap, _∙_, subst}
 use mathlib.Core.Bool.{Bool, true, false, cond}
 use mathlib.Core.List.{List, [], _∷_, _++_}
-use Prim.Native.Nat.{ℕ, _+_, _*_}
+use Prim.Native.Nat.{ℕ, _+_, _*_, _≤_}
 use native.Mathlib.Omega.{arith}
 use lib.Dec.{eqb}
 use lib.ListN.{length, take, drop}
@@ -11,7 +11,6 @@ use borrow.Author.Tests.{eqb-true, eqb-false}
 use Rattle.events.specs.declared.event.Event.{Event}
 use Rattle.sd2068.specs.declared.clock.Clock.{Clock}
 use Rattle.sd2068.specs.Power as power
-use Rattle.sd2068.specs.Power.{Power, powerOnOf}
 use Rattle.sd2068.specs.Step.{Told}
 use Rattle.sd2068.specs.Run.{toldBy}
 use Rattle.sd2068.proofs.WellLaws.{Well, power-on-well, step-well, step-taken}
@@ -21,10 +20,11 @@ use Rattle.script.specs.Checks.{Found, foundAt, faultIn, firstOf, startB
 use Rattle.script.specs.Rows.{Due}
 use Rattle.script.specs.Lines.{linesOf}
 use Rattle.script.specs.File.{Run, goodOf, refusedOf, runOf}
-use Rattle.script.proofs.PartLaws.{ends, section-length}
-use Rattle.script.proofs.FileLaws.{good, powered, power-on, events-count, run-accepted}
+use Rattle.script.proofs.FileLaws.{good, start-state, events-count, run-accepted, run-refused}
 use Rattle.script.proofs.LineLaws.{lines-length}
-use Rattle.script.proofs.RowLaws.{given, only}
+use Rattle.script.proofs.RowLaws.{given, only, clean}
+use Rattle.script.proofs.Telling.{equal, less, either}
+use Rattle.script.proofs.SectionLaws.{most-events}
 
 -- each event is taken from the state that the one before it left
 pub data Taken : Clock → List Event → Type 0 where
@@ -49,35 +49,22 @@ file-taken file room n =
     let h = headerOf file in
     let s = startBytesOf file h in
     let g = good file room n in
-    let long = section-length file (h .start) 19 (ends h (length file) (g .sections) .start) in
-    let on : powerOnOf s .state ≡ power.startOf s = ap (λ (p : Power). p .state) (power-on s long) ∙ ap (λ (t : Bool). powered s t .state) (g .clear) in
-    taken (power.startOf s) (subst Well on (power-on-well s)) (eventsOf file h) 0 (g .events)
-
--- a file that is not refused has index 0
-due-none : {file : List ℕ} {room n i : ℕ} → Due file room n i → n ≡ 0 → i ≡ 0
-due-none (Due.due8 r) e = refl
-due-none (Due.due4 n8 r) e = refl
-due-none (Due.due5 n8 n4 r) e = refl
-due-none (Due.due6 n8 n4 n5 r) e = refl
-due-none (Due.due2 i w h b r) e = omega arith
-due-none (Due.due3 i w h b n r) e = omega arith
-due-none (Due.due7 w s r) e = refl
-due-none (Due.due0 w s n) e = refl
+    taken (power.startOf s) (subst Well (start-state file h room g) (power-on-well s)) (eventsOf file h) 0 (g .events)
 
 module _ (file out : List ℕ) where
   abbrev checks : Found
   checks = checkedOf file (length out)
 
-  told-by : (t : Bool) → eqb (checks .refusal) 0 ≡ t → (r : Run) → r ≡ cond t (goodOf file (headerOf file) out) (refusedOf checks out) → (r .refusal ≡ checks .refusal) × (r .index ≡ checks .index)
-  unfolding goodOf refusedOf
-  told-by true e r p =
-      let zero = eqb-true (checks .refusal) 0 e in
-      (ap (λ (m : Run). m .refusal) p ∙ sym zero, ap (λ (m : Run). m .index) p ∙ sym (due-none (given file (length out)) zero))
-  told-by false e r p = (ap (λ (m : Run). m .refusal) p, ap (λ (m : Run). m .index) p)
-
   told : (runOf file out .refusal ≡ checks .refusal) × (runOf file out .index ≡ checks .index)
-  unfolding runOf
-  told = told-by (eqb (checks .refusal) 0) refl (runOf file out) refl
+  unfolding goodOf refusedOf
+  told =
+      either (equal (checks .refusal) 0)
+      (λ zero.
+      let run = run-accepted file out zero in
+      (ap (λ (r : Run). r .refusal) run ∙ sym zero, ap (λ (r : Run). r .index) run ∙ sym (clean (given file (length out)) zero .index)))
+      (λ more.
+      let run = run-refused file out more in
+      (ap (λ (r : Run). r .refusal) run, ap (λ (r : Run). r .index) run))
 
   -- a run's refusal is the one that is due, and no other
   pub run-due : Due file (length out) (runOf file out .refusal) (runOf file out .index)
@@ -104,10 +91,39 @@ module _ (file out : List ℕ) where
     size : length lines ≡ header .count * 5
     size =
         lines-length (power.startOf (startBytesOf file header)) (eventsOf file header)
-        ∙ ap (λ (k : ℕ). k * 5) (events-count file header out (good file (length out) n))
+        ∙ ap (λ (k : ℕ). k * 5) (events-count file header (length out) (good file (length out) n))
 
     pub run-lines : take (header .count * 5) (runOf file out .output) ≡ lines
     run-lines = ap (take (header .count * 5)) output ∙ take-at lines (drop (header .count * 5) out) (header .count * 5) size
 
     pub run-rest : drop (header .count * 5) (runOf file out .output) ≡ drop (header .count * 5) out
     run-rest = ap (drop (header .count * 5)) output ∙ drop-at lines (drop (header .count * 5) out) (header .count * 5) size
+
+  -- its events have room for their lines, and a refused file has none
+  pub run-fits : runOf file out .count * 5 ≤ length out
+  unfolding goodOf refusedOf
+  run-fits =
+      either (equal (checks .refusal) 0)
+      (λ zero.
+      let count = ap (λ (r : Run). r .count) (run-accepted file out zero) in
+      let room = good file (length out) zero .enough in
+      omega arith)
+      (λ more.
+      let count = ap (λ (r : Run). r .count) (run-refused file out more) in
+      omega arith)
+
+-- an output of 20,445 bytes is never too short
+enough-room : {file : List ℕ} {room n i : ℕ} → 20445 ≤ room → Due file room n i → n ≡ 7 → ⊥
+enough-room h (Due.due8 r) e = omega arith
+enough-room h (Due.due4 n8 r) e = omega arith
+enough-room h (Due.due5 n8 n4 r) e = omega arith
+enough-room h (Due.due6 n8 n4 n5 r) e = omega arith
+enough-room h (Due.due2 i w k b r) e = omega arith
+enough-room h (Due.due3 i w k b n r) e = omega arith
+enough-room {file} h (Due.due7 w s r) e =
+    let most = most-events file (w .not5) (either (less 16384 (length file)) (λ long. absurd (w .not8 long)) (λ short. short)) in
+    omega arith
+enough-room h (Due.due0 w s n) e = omega arith
+
+pub never-seven : (file out : List ℕ) → 20445 ≤ length out → runOf file out .refusal ≡ 7 → ⊥
+never-seven file out h = enough-room h (run-due file out)

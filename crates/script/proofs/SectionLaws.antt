@@ -97,3 +97,12 @@ module _ (file : List ℕ) where
       either (at-most (headerWord file 1 + 4 * headerWord file 0) (length file))
       (λ le. le)
       (λ (lt : length file < headerWord file 1 + 4 * headerWord file 0). absurd (n (over Section.events lt)))
+
+  -- header, start bytes and events share no byte, so a file of 16,384 has room for 4,089 events
+  counted-room : Facts → length file ≤ 16384 → Kept-apart → headerWord file 0 ≤ 4089
+  counted-room f h (inl (inl e)) = omega arith
+  counted-room f h (inl (inr b)) = omega arith
+  counted-room f h (inr b) = omega arith
+
+  pub most-events : (Row5 file → ⊥) → length file ≤ 16384 → headerWord file 0 ≤ 4089
+  most-events n h = either facts (λ f. counted-room f h (f .1)) (λ r. absurd (n r))

@@ -6,7 +6,7 @@ use lib.Dec.{eqb, ltb}
 use lib.ListN.{length}
 use Rattle.registers.specs.Fixed.{clearTimeOf}
 use Rattle.events.specs.declared.event.Event.{Event}
-use Rattle.events.specs.Refusals.{numberOf, faultOf}
+use Rattle.events.specs.Refusal.{numberOf, faultOf}
 use Rattle.sd2068.specs.Power.{startTime}
 use Rattle.script.specs.declared.header.Header.{Header}
 use Rattle.script.specs.declared.checks.Fault.{Fault}

@@ -6,7 +6,7 @@ use Prim.Native.Nat.{ℕ, _*_}
 use lib.Dec.{eqb}
 use lib.ListN.{length, drop}
 use Rattle.events.specs.declared.event.Event.{Event}
-use Rattle.events.specs.Refusals.{numberOf}
+use Rattle.events.specs.Refusal.{numberOf}
 use Rattle.sd2068.specs.declared.clock.Clock.{Clock}
 use Rattle.sd2068.specs.Power as power
 use Rattle.sd2068.specs.Power.{zeroStart}

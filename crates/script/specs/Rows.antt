@@ -74,7 +74,7 @@ Row8 file = 16384 < length file
 abbrev pub Sound : List ℕ → ℕ → Type 0
 Sound file i = (Row2 file i → ⊥) × (Row3 file i → ⊥)
 
--- the rows of the whole file that come before its events
+-- none of the rows that come before the events
 pub record Whole (file : List ℕ) : Type 0 where
   pub not8 : Row8 file → ⊥
   pub not4 : Row4 file → ⊥

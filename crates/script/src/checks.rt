@@ -9,14 +9,22 @@ use sd2068::power_on;
 ghost use mathlib.Core.Path.{_≡_};
 ghost use mathlib.Core.Bool.{true};
 ghost use lib.ListN.{length};
+ghost use Rattle.events.specs.Refusal.{numberOf};
 ghost use Rattle.script.specs.Sections.{sectionsOf};
 ghost use Rattle.script.specs.Event.{eventsIn};
-ghost use Rattle.script.specs.Checks.{firstOf, placedOf, checkedOf, found};
+ghost use Rattle.script.specs.Checks.{foundAt, firstOf, placedOf, checkedOf, found};
 
 // A refusal, and the event's index where an event is refused.
 pub struct Fault {
     pub refusal: Refusal,
     pub index: usize,
+}
+
+// With any refusal but an event's the index is 0. (rule 9.4)
+fn whole(refusal: Refusal) -> Fault
+    ensures { λ r. ⌜ found r ≡ foundAt (numberOf refusal) 0 ⌝ }
+{
+    Fault { refusal, index: 0 }
 }
 
 // The first event at fault. (rule 9.4)
@@ -36,10 +44,7 @@ fn first_fault(events: &[u8]) -> Fault
         at = at + 4;
         index = index + 1;
     }
-    Fault {
-        refusal: Refusal::None,
-        index: 0,
-    }
+    whole(Refusal::None)
 }
 
 // What comes after the sections: the start bytes, the events, the room. (rule 9.4)
@@ -52,7 +57,7 @@ fn placed(file: &[u8], h: Header, room: usize) -> Fault
     let started = power_on(&file[start..end]);
     let refusal = started.refusal;
     if refusal.number() != 0 {
-        return Fault { refusal, index: 0 };
+        return whole(refusal);
     }
     let count = h.count as usize;
     let at = h.events as usize;
@@ -63,15 +68,9 @@ fn placed(file: &[u8], h: Header, room: usize) -> Fault
         return first;
     }
     if room < count * 5 {
-        Fault {
-            refusal: Refusal::Output,
-            index: 0,
-        }
+        whole(Refusal::Output)
     } else {
-        Fault {
-            refusal: Refusal::None,
-            index: 0,
-        }
+        whole(Refusal::None)
     }
 }
 
@@ -81,24 +80,15 @@ pub(crate) fn checked(file: &[u8], room: usize) -> Fault
 {
     let length = file.len();
     if 16384 < length {
-        return Fault {
-            refusal: Refusal::Long,
-            index: 0,
-        };
+        return whole(Refusal::Long);
     }
     if length < 8 {
-        return Fault {
-            refusal: Refusal::Short,
-            index: 0,
-        };
+        return whole(Refusal::Short);
     }
     let h = header_of(file);
     if sections(h, length) {
         placed(file, h, room)
     } else {
-        Fault {
-            refusal: Refusal::Section,
-            index: 0,
-        }
+        whole(Refusal::Section)
     }
 }

@@ -5,7 +5,7 @@ ghost use mathlib.Core.Path.{_≡_};
 ghost use Prim.Native.Nat.{_+_, _≤_};
 ghost use lib.ListN.{length};
 ghost use Rattle.control.specs.Pin.{letterOf};
-ghost use Rattle.events.specs.Answers.{textOf};
+ghost use Rattle.events.specs.Answer.{textOf};
 ghost use Rattle.script.specs.Lines.{lineOf, putOf};
 
 pub(crate) fn put_line(out: &mut [u8], at: usize, answer: Answer, pin: Level)

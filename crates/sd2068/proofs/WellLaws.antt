@@ -34,7 +34,7 @@ use Rattle.bus.specs.Bytes.{heardOf}
 use Rattle.bus.specs.Reads as reads
 use Rattle.bus.proofs.WellLaws as bus-laws
 use Rattle.sd2068.specs.declared.clock.Clock.{Clock}
-use Rattle.events.specs.Refusals.{fieldsOf, faultOf}
+use Rattle.events.specs.Refusal.{fieldsOf, faultOf}
 use Rattle.sd2068.specs.declared.answers.Answered.{Answered}
 use Rattle.sd2068.specs.Controls.{tdsOf}
 use Rattle.sd2068.specs.Clock.{withLatched, withBus}

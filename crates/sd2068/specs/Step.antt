@@ -5,8 +5,8 @@ use Prim.Native.Nat.{ℕ}
 use lib.Dec.{eqb}
 use Rattle.control.specs.Pin.{letterOf}
 use Rattle.events.specs.declared.answer.Answer.the-variants.{Quiet}
-use Rattle.events.specs.Answers.{textOf}
-use Rattle.events.specs.Refusals.{numberOf, faultOf}
+use Rattle.events.specs.Answer.{textOf}
+use Rattle.events.specs.Refusal.{numberOf, faultOf}
 use Rattle.sd2068.specs.declared.clock.Clock.{Clock}
 use Rattle.sd2068.specs.declared.answers.Answered.{Answered}
 use Rattle.sd2068.specs.declared.answers.Stepped.{Stepped}

@@ -6,7 +6,7 @@ use events::Answer;
 use events::Refusal;
 use events::fault;
 ghost use mathlib.Core.Path.{_≡_};
-ghost use Rattle.events.specs.Refusals.{numberOf};
+ghost use Rattle.events.specs.Refusal.{numberOf};
 ghost use Rattle.sd2068.specs.Step.{quietOf, eventOf, toldOf, stepped, stepOf};
 
 // An event that is not answered.

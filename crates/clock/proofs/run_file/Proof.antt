@@ -1,31 +1,14 @@
 -- A run hands back no more lines than its output has room for. Assumes nothing.
-use mathlib.Core.Path.{_≡_, refl, sym, ap}
-use mathlib.Core.Bool.{Bool, true, false, cond}
-use mathlib.Core.List.{List}
-use Prim.Native.Nat.{ℕ, _*_, _≤_}
+use mathlib.Core.Path.{sym, ap}
+use Prim.Native.Nat.{_*_, _≤_}
 use native.Mathlib.Omega.{arith}
-use lib.Dec.{eqb}
 use lib.ListN.{length}
 use lib.Seq.{length-take-le}
 use borrow.Author.Needs.{needs}
-use borrow.Author.Tests.{eqb-true}
-use Rattle.script.specs.Header.{headerOf}
-use Rattle.script.specs.Checks.{checkedOf}
-use Rattle.script.specs.File.{Run, goodOf, refusedOf, runOf}
-use Rattle.script.proofs.FileLaws.{good}
+use Rattle.script.specs.File.{Run}
+use Rattle.script.proofs.RunLaws.{run-fits}
 use Rattle.clock.proofs.run_file.Statement.{statement}
 use Rattle.clock.proofs.run_file.Tie as tie
-
--- a refused file has no line, and any other was checked against the room
-module _ (file out : List ℕ) where
-  fits-by : (t : Bool) → eqb (checkedOf file (length out) .refusal) 0 ≡ t → cond t (goodOf file (headerOf file) out) (refusedOf (checkedOf file (length out)) out) .count * 5 ≤ length out
-  unfolding goodOf refusedOf
-  fits-by true e = good file (length out) (eqb-true (checkedOf file (length out) .refusal) 0 e) .enough
-  fits-by false e = omega arith
-
-  fits : runOf file out .count * 5 ≤ length out
-  unfolding runOf
-  fits = fits-by (eqb (checkedOf file (length out) .refusal) 0) refl
 
 run-requires : tie.Need-run-requires
 run-requires c κs = tt
@@ -37,7 +20,7 @@ enough : (c : tie.After-run) → 5 * c .run .result .count ≤ length (c .before
 enough c =
     let a = c .before .before .before .before .args in
     let n = ap (λ (r : Run). r .count) (c .run .ensures) in
-    let f = fits (a .file .now) (a .out .now) in
+    let f = run-fits (a .file .now) (a .out .now) in
     omega arith
 
 mul-end : tie.Need-mul-end

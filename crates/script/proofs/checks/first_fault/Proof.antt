@@ -4,7 +4,7 @@ use Prim.Native.Nat.{_+_, _*_, _≤_}
 use native.Mathlib.Omega.{arith}
 use lib.ListN.{length}
 use borrow.Author.Needs.{needs}
-use Rattle.events.specs.Refusals.{numberOf}
+use Rattle.events.specs.Refusal.{numberOf}
 use Rattle.script.specs.Event.{eventsFrom, eventsIn}
 use Rattle.script.specs.Checks.{firstOf}
 use Rattle.script.proofs.SearchLaws.{first-good, first-bad, first-end}
@@ -58,8 +58,15 @@ loop-again c =
     let on = first-good (loop .before .before .args .events .now) (loop .loop .at) (loop .loop .left) (loop .loop .index) (event .event-at .result) (numberOf (fault .fault .result)) (omega arith) (event .event-at .ensures) (fault .fault .ensures) (sym (c .before .number .ensures) ∙ c .if1 .left) in
     (omega arith, (omega arith, sym on ∙ loop .loop .inv .1 .1))
 
+whole-requires : tie.Need-whole-requires Inv-loop μ-loop
+whole-requires c κs = tt
+
 returns-2 : tie.Need-returns-2 Inv-loop μ-loop
-returns-2 c = sym (first-end (c .before .before .before .args .events .now) (c .before .loop .at) (c .before .loop .left) (c .before .loop .index) (omega arith)) ∙ c .before .loop .inv .1 .1
+returns-2 c =
+    let loop = c .before .before in
+    c .whole .ensures
+    ∙ sym (first-end (loop .before .before .args .events .now) (loop .loop .at) (loop .loop .left) (loop .loop .index) (omega arith))
+    ∙ loop .loop .inv .1 .1
 
 pub first-fault-spec : {M : Type 1} → statement M
 first-fault-spec =
@@ -77,4 +84,5 @@ first-fault-spec =
     add-index
     loop-less
     loop-again
+    whole-requires
     returns-2)

@@ -2,7 +2,7 @@
 use mathlib.Core.Path.{sym, _∙_}
 use Rattle.script.specs.Checks.{found}
 use Rattle.script.proofs.PartLaws.{ends}
-use Rattle.script.proofs.FileLaws.{start-bad, event-bad, room-bad, room-good}
+use Rattle.script.proofs.FileLaws.{Searched, start-bad, searched, event-bad, room-bad, room-good}
 use borrow.Author.Needs.{needs}
 use Rattle.script.proofs.checks.placed.Statement.{statement}
 use Rattle.script.proofs.checks.placed.Tie as tie
@@ -28,11 +28,15 @@ power-on-requires c κs = tt
 number-requires : tie.Need-number-requires
 number-requires c κs = tt
 
+whole-requires : tie.Need-whole-requires
+whole-requires c κs = tt
+
 returns : tie.Need-returns
 returns c =
-    let on = c .before .before in
+    let on = c .before .before .before in
     let start = on .before .before .before .before in
-    start-bad _ _ (start .args .room) (start .pre) (on .power-on .result) (on .power-on .ensures) (λ e. c .if1 .taken (c .before .number .ensures ∙ e))
+    c .whole .ensures
+    ∙ start-bad _ _ (start .args .room) (start .pre) (on .power-on .result) (on .power-on .ensures) (λ e. c .before .if1 .taken (c .before .before .number .ensures ∙ e))
 
 cast-count : tie.Need-cast-count
 cast-count c = search needs
@@ -64,35 +68,36 @@ first-fault-requires c κs = tt
 number-requires-2 : tie.Need-number-requires-2
 number-requires-2 c κs = tt
 
-returns-2 : tie.Need-returns-2
-returns-2 c =
-    let first = c .before .before in
-    let accepted = first .before .before .before .before in
+-- what is known at the events
+searched-at : (c : tie.After-first-fault) → Searched (c .before .before .before .before .before .before .before .before .before .before .args .file .now) (c .before .before .before .before .before .before .before .before .before .before .args .h) (found (c .first-fault .result))
+searched-at c =
+    let accepted = c .before .before .before .before in
     let on = accepted .before .before in
     let start = on .before .before .before .before in
-    event-bad _ _ (start .args .room) (start .pre) (on .power-on .result) (on .power-on .ensures) (sym (accepted .before .number .ensures) ∙ accepted .if1 .left)
-    (found (first .first-fault .result)) (first .first-fault .ensures) (λ e. c .if2 .taken (c .before .number2 .ensures ∙ e))
+    searched _ _ (start .args .room) (start .pre) (on .power-on .result) (on .power-on .ensures) (sym (accepted .before .number .ensures) ∙ accepted .if1 .left)
+    (found (c .first-fault .result)) (c .first-fault .ensures)
+
+returns-2 : tie.Need-returns-2
+returns-2 c = event-bad (searched-at (c .before .before)) _ (λ e. c .if2 .taken (c .before .number2 .ensures ∙ e))
 
 mul-if3 : tie.Need-mul-if3
 mul-if3 c = search needs
 
+whole-requires-2 : tie.Need-whole-requires-2
+whole-requires-2 c κs = tt
+
+whole-requires-3 : tie.Need-whole-requires-3
+whole-requires-3 c κs = tt
+
 returns-3 : tie.Need-returns-3
 returns-3 c =
-    let first = c .before .before .before in
-    let accepted = first .before .before .before .before in
-    let on = accepted .before .before in
-    let start = on .before .before .before .before in
-    room-bad _ _ (start .args .room) (start .pre) (on .power-on .result) (on .power-on .ensures) (sym (accepted .before .number .ensures) ∙ accepted .if1 .left)
-    (found (first .first-fault .result)) (first .first-fault .ensures) (sym (c .before .before .number2 .ensures) ∙ c .before .if2 .left) (c .if3 .taken)
+    let second = c .before .before in
+    c .whole2 .ensures ∙ room-bad (searched-at (second .before .before)) _ (sym (second .before .number2 .ensures) ∙ second .if2 .left) (c .before .if3 .taken)
 
 returns-4 : tie.Need-returns-4
 returns-4 c =
-    let first = c .before .before .before in
-    let accepted = first .before .before .before .before in
-    let on = accepted .before .before in
-    let start = on .before .before .before .before in
-    room-good _ _ (start .args .room) (start .pre) (on .power-on .result) (on .power-on .ensures) (sym (accepted .before .number .ensures) ∙ accepted .if1 .left)
-    (found (first .first-fault .result)) (first .first-fault .ensures) (sym (c .before .before .number2 .ensures) ∙ c .before .if2 .left) (c .if3 .left)
+    let second = c .before .before in
+    c .whole3 .ensures ∙ room-good (searched-at (second .before .before)) _ (sym (second .before .number2 .ensures) ∙ second .if2 .left) (c .before .if3 .left)
 
 pub placed-spec : {M : Type 1} → statement M
 placed-spec =
@@ -105,6 +110,7 @@ placed-spec =
     part-power-on-end
     power-on-requires
     number-requires
+    whole-requires
     returns
     cast-count
     cast-at
@@ -117,5 +123,7 @@ placed-spec =
     number-requires-2
     returns-2
     mul-if3
+    whole-requires-2
+    whole-requires-3
     returns-3
     returns-4)

@@ -1,6 +1,6 @@
 -- Refused or not goes by the checks. Assumes nothing.
 use mathlib.Core.Path.{sym, ap, _∙_}
-use Rattle.events.specs.Refusals.{numberOf}
+use Rattle.events.specs.Refusal.{numberOf}
 use Rattle.script.specs.Checks.{Found}
 use Rattle.script.specs.File.{refusedOf}
 use Rattle.script.proofs.FileLaws.{run-accepted, run-refused}

@@ -62,7 +62,7 @@ run-events-requires : tie.Need-run-events-requires
 run-events-requires c κs =
     let head = c .before .before .before .before .before .before .before .before in
     let args = head .before .before .before .args in
-    events-room (args .file .now) (head .header-of .result) (args .out .now) (good-at head)
+    events-room (args .file .now) (head .header-of .result) (length (args .out .now)) (good-at head)
 
 same-length : tie.Need-same-length
 same-length c = search needs
@@ -73,8 +73,8 @@ returns c =
     let on = run .before .before .before .before .before .before in
     let head = on .before .before .before in
     let args = head .before .before .before .args in
-    let began = start-taken (args .file .now) (head .header-of .result) (args .out .now) (good-at head) (on .power-on .result) (on .power-on .ensures) in
-    ran-good (args .file .now) (head .header-of .result) (args .out .now) (good-at head) (on .power-on .result .clock) (run .run-events .result) _ began (run .run-events .ensures)
+    let began = start-taken (args .file .now) (head .header-of .result) (length (args .out .now)) (good-at head) (on .power-on .result) (on .power-on .ensures) in
+    ran-good (args .file .now) (head .header-of .result) (length (args .out .now)) (good-at head) (args .out .now) (on .power-on .result .clock) (run .run-events .result) _ began (run .run-events .ensures)
     ∙ ap (λ (h : Header). goodOf (args .file .now) h (args .out .now)) (head .header-of .ensures)
 
 pub run-good-spec : {M : Type 1} → statement M
