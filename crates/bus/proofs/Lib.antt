@@ -1,2 +1,3 @@
+pub mod AgeLaws
 pub mod WellLaws
 pub mod Settled

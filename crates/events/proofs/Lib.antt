@@ -1,1 +1,3 @@
+pub mod Telling
+pub mod RowLaws
 pub mod Settled

@@ -2,6 +2,7 @@
 use mathlib.Core.Bool.{Bool, cond, _&&_, not}
 use Prim.Native.Nat.{ℕ}
 use lib.Dec.{eqb, ltb}
+use Rattle.events.specs.declared.event.Event.{Event}
 use Rattle.events.specs.declared.refusal.Refusal.{Refusal}
 use Rattle.events.specs.declared.refusal.Refusal.the-variants as refusal
 
@@ -27,3 +28,7 @@ fieldsOf kind byte count =
 -- 2 for a kind over 6, then 3 for its fields; 0 is none
 abbrev pub faultOf : ℕ → ℕ → ℕ → ℕ
 faultOf kind byte count = cond (ltb kind 7) (cond (fieldsOf kind byte count) 0 3) 2
+
+-- the same of an event
+abbrev pub faultIn : Event → ℕ
+faultIn e = faultOf (e .kind) (e .byte) (e .count)

@@ -1,4 +1,6 @@
 pub mod TrimTests
 pub mod SecondLaws
+pub mod SpanLaws
+pub mod StoredLaws
 pub mod WellLaws
 pub mod Settled

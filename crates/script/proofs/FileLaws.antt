@@ -9,6 +9,7 @@ use borrow.Author.Tests.{lt-ltb, le-ltb, eq-eqb, ne-eqb}
 use Rattle.registers.specs.Fixed.{clearTimeOf}
 use Rattle.events.specs.declared.event.Event.{Event}
 use Rattle.events.specs.Refusal.{numberOf}
+use Rattle.events.proofs.Telling.{less, either, is-true}
 use Rattle.sd2068.specs.declared.clock.Clock.{Clock}
 use Rattle.sd2068.specs.declared.answers.Started.{Started}
 use Rattle.sd2068.specs.Power as power
@@ -24,7 +25,6 @@ use Rattle.script.specs.Lines.{linesOf}
 use Rattle.script.specs.File.{Run, eventsRun, goodOf, refusedOf, runOf}
 use Rattle.script.proofs.SearchLaws.{events-length}
 use Rattle.script.proofs.PartLaws.{ends, part, section-length}
-use Rattle.script.proofs.Telling.{less, either, is-true}
 use Rattle.script.proofs.SectionLaws.{row5}
 use Rattle.script.proofs.StartLaws.{row6}
 use Rattle.script.proofs.EventLaws.{First, first, one-first}

@@ -1,4 +1,3 @@
-pub mod Telling
 pub mod SectionLaws
 pub mod StartLaws
 pub mod EventLaws

@@ -18,7 +18,7 @@ use Rattle.sd2068.specs.declared.clock.Clock.{Clock}
 use Rattle.sd2068.specs.declared.answers.Answered.{Answered}
 use Rattle.sd2068.specs.declared.answers.Stepped.{Stepped}
 use Rattle.sd2068.specs.Step.{Told, quietOf, eventOf, refusalOf, stepped, stepOf}
-use Rattle.sd2068.specs.Run.{toldBy, afterOf}
+use Rattle.sd2068.specs.Run.{toldBy, after, afterOf}
 use Rattle.script.specs.Event.{eventAt, eventsFrom, eventsIn}
 use Rattle.script.specs.Lines.{lineOf, putOf, linesOf}
 use Rattle.script.specs.File.{eventsRun}
@@ -74,7 +74,7 @@ module _ (out : List ℕ) (at : ℕ) (l : List ℕ) (five : length l ≡ 5) (h :
 
 -- the first event is told, and the rest go on from its state
 after-first : (c : Clock) (s : List ℕ) (at left : ℕ) → 0 < left → afterOf c (eventsFrom s at left) ≡ afterOf (toldBy c (eventAt s at) .state) (eventsFrom s (at + 4) (left - 1))
-unfolding afterOf
+unfolding after
 after-first c s at zero h = absurd (not-suc-le-zero h)
 after-first c s at (suc k) h =
     let one : k ≡ suc k - 1 = omega arith in
@@ -168,7 +168,7 @@ module _ {s out₀ : List ℕ} {c₀ : Clock} {out : List ℕ} {c : Clock} {left
 
 -- nothing is left: the lines stand, and behind them what stood there
 ends : {s out₀ : List ℕ} {c₀ : Clock} {out : List ℕ} {c : Clock} {at line : ℕ} → Stage s out₀ c₀ out c 0 at line → eventsRun c₀ (eventsIn s) out₀ c out
-unfolding afterOf linesOf eventsIn
+unfolding after linesOf eventsIn
 ends {s} {out₀} {c₀} {out} {c} {at} {line} g =
     let end : line ≡ length (eventsIn s) * 5 = (let a = g .room in omega arith) ∙ ap (λ (n : ℕ). n * 5) (sym (events-length s 0 (length s / 4))) in (
       g .state,

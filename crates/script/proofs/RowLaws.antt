@@ -6,14 +6,15 @@ use Prim.Native.Nat.{ℕ, _*_, _≤_, _<_}
 use native.Mathlib.Omega.{arith}
 use lib.Dec.{ltb}
 use lib.ListN.{length}
+use Rattle.events.proofs.Telling.{Tells, less, turned, chosen, is-true, is-false}
+use Rattle.events.proofs.RowLaws.{Fault}
 use Rattle.script.specs.Header.{headerOf}
 use Rattle.script.specs.Sections.{sectionsOf}
 use Rattle.script.specs.Checks.{Found, foundAt, none, orElse, firstOf, eventsOf, placedOf, checkedOf}
 use Rattle.script.specs.Rows.{headerWord, Row4, Row7, Row8, Sound, Whole, Due}
-use Rattle.script.proofs.Telling.{Tells, less, turned, chosen, is-true, is-false}
 use Rattle.script.proofs.SectionLaws.{row5}
 use Rattle.script.proofs.StartLaws.{row6}
-use Rattle.script.proofs.EventLaws.{Fault, First, first, one-first}
+use Rattle.script.proofs.EventLaws.{First, first, one-first}
 
 pub not-zero : (n : ℕ) → 0 < n → _≡_ {A = ℕ} n 0 → ⊥
 not-zero n h e = omega arith

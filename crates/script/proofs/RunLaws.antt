@@ -9,21 +9,24 @@ use lib.ListN.{length, take, drop}
 use lib.Seq.{take-at, drop-at}
 use borrow.Author.Tests.{eqb-true, eqb-false}
 use Rattle.events.specs.declared.event.Event.{Event}
+use Rattle.events.specs.Refusal.{faultIn}
+use Rattle.events.proofs.Telling.{equal, less, either}
 use Rattle.sd2068.specs.declared.clock.Clock.{Clock}
 use Rattle.sd2068.specs.Power as power
 use Rattle.sd2068.specs.Step.{Told}
-use Rattle.sd2068.specs.Run.{toldBy}
+use Rattle.sd2068.specs.Power.{zeroStart, powerOnOf}
+use Rattle.sd2068.specs.Run.{toldBy, afterOf}
 use Rattle.sd2068.proofs.WellLaws.{Well, power-on-well, step-well, step-taken}
 use Rattle.script.specs.declared.header.Header.{Header}
 use Rattle.script.specs.Header.{headerOf}
-use Rattle.script.specs.Checks.{Found, foundAt, faultIn, firstOf, startBytesOf, eventsOf, checkedOf}
-use Rattle.script.specs.Rows.{Due}
+use Rattle.script.specs.Checks.{Found, foundAt, firstOf, startBytesOf, eventsOf, checkedOf}
+use Rattle.script.specs.Rows.{headerWord, listedOf, startsOf, Due}
 use Rattle.script.specs.Lines.{linesOf}
 use Rattle.script.specs.File.{Run, goodOf, refusedOf, runOf}
+use Rattle.script.proofs.EventLaws.{events-listed}
 use Rattle.script.proofs.FileLaws.{good, start-state, events-count, run-accepted, run-refused}
 use Rattle.script.proofs.LineLaws.{lines-length}
 use Rattle.script.proofs.RowLaws.{given, only, clean}
-use Rattle.script.proofs.Telling.{equal, less, either}
 use Rattle.script.proofs.SectionLaws.{most-events}
 
 -- each event is taken from the state that the one before it left
@@ -73,8 +76,51 @@ module _ (file out : List ℕ) where
       (λ i. foundAt (sym (told .0) i) (sym (told .1) i))
       (given file (length out))
 
+  pub run-given : {n i : ℕ} → (runOf file out .refusal ≡ n) × (runOf file out .index ≡ i) → Due file (length out) n i
+  run-given {n} e =
+      subst (Due file (length out) n) (e .1) (subst (λ (m : ℕ). Due file (length out) m (runOf file out .index)) (e .0) run-due)
+
   pub run-only : {n i : ℕ} → Due file (length out) n i → (runOf file out .refusal ≡ n) × (runOf file out .index ≡ i)
   run-only d = (told .0 ∙ only d .0, told .1 ∙ only d .1)
+
+  -- a refused file leaves the output, and nothing has run
+  pub run-untouched : (runOf file out .refusal ≡ 0 → ⊥) → runOf file out ≡ record { refusal = runOf file out .refusal; index = runOf file out .index; count = 0; state = zeroStart; output = out }
+  unfolding refusedOf
+  run-untouched bad =
+      run-refused file out (λ e. bad (told .0 ∙ e))
+      ∙ (λ i. record { refusal = sym (told .0) i; index = sym (told .1) i; count = 0; state = zeroStart; output = out })
+
+  -- a file that is not refused is run: from its start bytes, through the events that its bytes list
+  abbrev begun : Clock
+  begun = powerOnOf (startsOf file) .state
+
+  pub run-whole :
+      runOf file out .refusal ≡ 0
+      → runOf file out
+      ≡ record {
+        refusal = 0;
+        index = 0;
+        count = headerWord file 0;
+        state = afterOf begun (listedOf file);
+        output = linesOf begun (listedOf file) ++ drop (headerWord file 0 * 5) out;
+      }
+  unfolding goodOf
+  run-whole zero =
+      let n = sym (told .0) ∙ zero in
+      let h = headerOf file in
+      let g = good file (length out) n in
+      let count : h .count ≡ headerWord file 0 = omega arith in
+      let place : h .start ≡ headerWord file 3 = omega arith in
+      let state = sym (start-state file h (length out) g) ∙ ap (λ (at : ℕ). powerOnOf (take 19 (drop at file)) .state) place in
+      let events = events-listed file (clean (given file (length out)) n .before .not5) in
+      run-accepted file out n
+      ∙ (λ i. record {
+        refusal = 0;
+        index = 0;
+        count = count i;
+        state = afterOf (state i) (events i);
+        output = linesOf (state i) (events i) ++ drop (count i * 5) out;
+      })
 
   -- the first five bytes an event are the lines, and the others stay
   module _ (n : checks .refusal ≡ 0) where

@@ -7,8 +7,9 @@ use native.Mathlib.Nat.{not-suc-le-zero}
 use lib.ListN.{length}
 use borrow.Author.Tests.{eq-eqb, ne-eqb}
 use Rattle.events.specs.declared.event.Event.{Event}
+use Rattle.events.specs.Refusal.{faultIn}
 use Rattle.script.specs.Event.{eventAt, eventsFrom}
-use Rattle.script.specs.Checks.{none, foundAt, faultIn, firstOf}
+use Rattle.script.specs.Checks.{none, foundAt, firstOf}
 
 -- n events are n
 pub events-length : (s : List ℕ) (at n : ℕ) → length (eventsFrom s at n) ≡ n

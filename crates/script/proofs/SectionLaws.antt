@@ -6,10 +6,10 @@ use Prim.Native.Nat.{ℕ, _+_, _*_, _≤_, _<_}
 use native.Mathlib.Omega.{arith}
 use lib.Dec.{eqb}
 use lib.ListN.{length}
+use Rattle.events.proofs.Telling.{Tells, at-most, equal, turned, either, also, or-else}
 use Rattle.script.specs.Header.{headerOf}
 use Rattle.script.specs.Sections.{insideOf, apartOf, sectionsOf}
 use Rattle.script.specs.Rows.{headerWord, Section, Among, Row5, Row5.below as low}
-use Rattle.script.proofs.Telling.{Tells, at-most, equal, turned, either, also, or-else}
 
 -- no byte in common, as the test says it
 abbrev Apart : ℕ → ℕ → ℕ → ℕ → Type 0

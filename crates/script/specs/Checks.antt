@@ -6,7 +6,7 @@ use lib.Dec.{eqb, ltb}
 use lib.ListN.{length}
 use Rattle.registers.specs.Fixed.{clearTimeOf}
 use Rattle.events.specs.declared.event.Event.{Event}
-use Rattle.events.specs.Refusal.{numberOf, faultOf}
+use Rattle.events.specs.Refusal.{numberOf, faultIn}
 use Rattle.sd2068.specs.Power.{startTime}
 use Rattle.script.specs.declared.header.Header.{Header}
 use Rattle.script.specs.declared.checks.Fault.{Fault}
@@ -28,9 +28,6 @@ none = foundAt 0 0
 -- the second where the first is none
 abbrev pub orElse : Found → Found → Found
 orElse f g = cond (eqb (f .refusal) 0) g f
-
-abbrev pub faultIn : Event → ℕ
-faultIn e = faultOf (e .kind) (e .byte) (e .count)
 
 -- the first event at fault, where the first of the list has index i
 unfoldable pub firstOf : List Event → ℕ → Found

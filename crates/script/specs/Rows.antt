@@ -1,10 +1,12 @@
 -- The rows of the refusals' table that are a file's, each written from its row alone. (rules 9.1 to 9.4)
 use mathlib.Core.Path.{_≡_}
 use mathlib.Core.Bool.{false}
-use mathlib.Core.List.{List}
-use Prim.Native.Nat.{ℕ, _+_, _*_, _≤_, _<_}
-use lib.ListN.{length, getD}
+use mathlib.Core.List.{List, [], _∷_}
+use Prim.Native.Nat.{ℕ, zero, suc, _+_, _*_, _≤_, _<_}
+use lib.ListN.{length, getD, take, drop}
 use Rattle.registers.specs.Fixed.{clearOf}
+use Rattle.events.specs.declared.event.Event.{Event}
+use Rattle.events.specs.Rows as rows
 
 -- word n of the header: 0 the event count, 1 the events' offset, 2 the start byte count, 3 the start bytes' offset
 abbrev pub headerWord : List ℕ → ℕ → ℕ
@@ -33,15 +35,27 @@ byteOf file i = eventByte file i 1
 abbrev pub countOf : List ℕ → ℕ → ℕ
 countOf file i = eventByte file i 2 + 256 * eventByte file i 3
 
--- row 2, of event i: a kind over 6
-abbrev pub Row2 : List ℕ → ℕ → Type 0
-Row2 file i = 6 < kindOf file i
+-- event i, and n events from it on
+abbrev pub listedAt : List ℕ → ℕ → Event
+listedAt file i = record { kind = kindOf file i; byte = byteOf file i; count = countOf file i }
 
--- row 3, of event i: an unused field that is not 0, or pulses that are 0; the byte is kind 2's, the count kind 5's
-pub data Row3 (file : List ℕ) (i : ℕ) : Type 0 where
-  byte : (kindOf file i ≡ 2 → ⊥) → (byteOf file i ≡ 0 → ⊥) → Row3 file i
-  count : (kindOf file i ≡ 5 → ⊥) → (countOf file i ≡ 0 → ⊥) → Row3 file i
-  pulses : kindOf file i ≡ 5 → countOf file i ≡ 0 → Row3 file i
+unfoldable pub listedFrom : List ℕ → ℕ → ℕ → List Event
+listedFrom file i zero = []
+listedFrom file i (suc n) = listedAt file i ∷ listedFrom file (i + 1) n
+
+-- all events, and the start bytes
+abbrev pub listedOf : List ℕ → List Event
+listedOf file = listedFrom file 0 (headerWord file 0)
+
+abbrev pub startsOf : List ℕ → List ℕ
+startsOf file = take 19 (drop (headerWord file 3) file)
+
+-- rows 2 and 3, of event i
+abbrev pub Row2 : List ℕ → ℕ → Type 0
+Row2 file i = rows.Row2 (kindOf file i)
+
+abbrev pub Row3 : List ℕ → ℕ → Type 0
+Row3 file i = rows.Row3 (kindOf file i) (byteOf file i) (countOf file i)
 
 -- row 4: a file under 8 bytes
 abbrev pub Row4 : List ℕ → Type 0
@@ -72,7 +86,7 @@ Row8 file = 16384 < length file
 
 -- neither of an event's rows
 abbrev pub Sound : List ℕ → ℕ → Type 0
-Sound file i = (Row2 file i → ⊥) × (Row3 file i → ⊥)
+Sound file i = rows.Sound (kindOf file i) (byteOf file i) (countOf file i)
 
 -- none of the rows that come before the events
 pub record Whole (file : List ℕ) : Type 0 where

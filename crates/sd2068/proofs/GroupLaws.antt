@@ -9,7 +9,6 @@ use lib.Dec.{eqb, ltb}
 use borrow.Author.Tests.{lt-ltb, le-ltb, ne-eqb}
 use Rattle.calendar.specs.Repeat.{times}
 use Rattle.hand.specs.declared.hand.Hand.{Hand}
-use Rattle.hand.specs.Hand as hand
 use Rattle.hand.specs.Hand.{tickedOf}
 use Rattle.alarm.specs.declared.alarm.Alarm.{Alarm}
 use Rattle.alarm.specs.Alarm as alarm
@@ -110,10 +109,6 @@ unfolding writeOf
 unstored-alone c a b e = simp e
 
 -- a stored byte leaves the groups alone that have no register at its address
-pub hand-kept : (h : Hand) (a b : ℕ) → ltb a 0x07 ≡ false → eqb a 0x12 ≡ false → hand.storedOf h a b ≡ h
-unfolding hand.storedOf
-hand-kept h a b time trim = simp (time, trim)
-
 pub alarm-kept : (x : Alarm) (a b : ℕ) → (a < 0x07) ⊎ (0x10 ≤ a) → alarm.storedOf x a b ≡ x
 unfolding alarm.storedOf
 alarm-kept x a b (inl h) = simp (lt-ltb a 0x07 h, ne-eqb a 0x0E (λ e. omega arith), ne-eqb a 0x0F (λ e. omega arith))

@@ -1,4 +1,11 @@
 pub mod GroupLaws
 pub mod WellLaws
 pub mod ListedLaws
+pub mod RowLaws
+pub mod PhaseLaws
+pub mod SpeechLaws
+pub mod SettingLaws
+pub mod TrafficLaws
+pub mod ReadBackLaws
+pub mod KeptLaws
 pub mod Settled

@@ -28,14 +28,14 @@ use Rattle.sd2068.specs.WellFormed.{wellFormedOf, Listed}
 use Rattle.sd2068.proofs.WellLaws.{Well, parts, whole}
 
 -- what holds of the first n numbers, one more at a time
-record First (P : ℕ → Type 0) (n : ℕ) : Type 0 where
-  each : (k : ℕ) → k < n → P k
+pub record First (P : ℕ → Type 0) (n : ℕ) : Type 0 where
+  pub each : (k : ℕ) → k < n → P k
 
-none : (P : ℕ → Type 0) → First P 0
+pub none : (P : ℕ → Type 0) → First P 0
 none P = record { each = below-none P }
 
 infixl 20 _also_
-_also_ : {P : ℕ → Type 0} {n : ℕ} → First P n → P n → First P (n + 1)
+pub _also_ : {P : ℕ → Type 0} {n : ℕ} → First P n → P n → First P (n + 1)
 _also_ {P} {n} f p = record { each = below-more P n (f .each) p }
 
 -- a test of both values of a bit

@@ -29,7 +29,6 @@ use Rattle.bus.specs.declared.bytes.Effect.the-variants.{None, Latch, Write}
 use Rattle.bus.specs.declared.reads.Sent.{Sent}
 use Rattle.bus.specs.declared.reads.Sent.the-variants.{Nothing, Register}
 use Rattle.bus.specs.Phase as bus
-use Rattle.bus.specs.Phase.{nextOf}
 use Rattle.bus.specs.Bytes.{heardOf}
 use Rattle.bus.specs.Reads as reads
 use Rattle.bus.proofs.WellLaws as bus-laws
@@ -41,7 +40,7 @@ use Rattle.sd2068.specs.Clock.{withLatched, withBus}
 use Rattle.sd2068.specs.Power.{poweredOf, lostOf, startTime, startRam, startOf, zeroStart, Power, powerOnOf}
 use Rattle.sd2068.specs.Writing.{storesOf, writeOf}
 use Rattle.sd2068.specs.Pulse.{pulseOf, pulsesOf}
-use Rattle.sd2068.specs.Transfer.{startedOf, stoppedOf, effectedBy, byteOf, renewedOf, sentBy, readOf}
+use Rattle.sd2068.specs.Transfer.{startedOf, stoppedOf, effectedBy, byteOf, renewsOf, renewedOf, sentBy, readOf}
 use Rattle.sd2068.specs.WellFormed.{latchWell, dividerWell, wellFormedOf}
 use Rattle.sd2068.specs.Step.{eventOf, refusalOf, toldOf, stepOf}
 
@@ -236,7 +235,7 @@ module _ (c : Clock) (w : Well c) where
   unfolding renewedOf
   sent-by Nothing ack = w
   sent-by (Register a) ack =
-      moved c w (cond (eqb (nextOf a) 0x00) (bytesOf (c .hand .time)) (c .latched)) (latch-well c w (eqb (nextOf a) 0x00))
+      moved c w (cond (renewsOf a) (bytesOf (c .hand .time)) (c .latched)) (latch-well c w (renewsOf a))
       (reads.readOf (c .bus) ack .bus) (bus-laws.read-well (w .bus) ack)
 
   pub read-well : (ack : Bool) → Well (readOf c ack .clock)
@@ -261,7 +260,7 @@ module _ (c : Clock) (w : Well c) where
   -- refused or not
   pub step-well : (kind byte count : ℕ) → Well (stepOf c kind byte count .state)
   unfolding stepOf
-  step-well kind byte count = picked After (eqb (refusalOf c kind byte count) 0) (event-well kind byte count) w
+  step-well kind byte count = picked After (eqb (refusalOf c kind byte count) 0) (event-well _ _ _) w
 
 -- the same of the test that a step makes
 pub step-keeps : (c : Clock) → wellFormedOf c ≡ true → (kind byte count : ℕ) → wellFormedOf (stepOf c kind byte count .state) ≡ true

@@ -8,4 +8,6 @@ pub mod Pin
 pub mod Transfer
 pub mod WellFormed
 pub mod Step
+pub mod Rows
 pub mod Run
+pub mod Kept

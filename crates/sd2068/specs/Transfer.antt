@@ -75,8 +75,11 @@ byteOf c b =
     }
 
 -- a read at a whose pointer goes on to 00h latches anew
+abbrev pub renewsOf : ℕ → Bool
+renewsOf a = eqb (nextOf a) 0x00
+
 unfoldable pub renewedOf : Clock → ℕ → Clock
-renewedOf c a = withLatched c (cond (eqb (nextOf a) 0x00) (bytesOf (c .hand .time)) (c .latched))
+renewedOf c a = withLatched c (cond (renewsOf a) (bytesOf (c .hand .time)) (c .latched))
 
 -- a read: the byte at the pointer, and then what moves; FFh and no change where none is sent
 abbrev pub sentBy : Sent → Clock → Bool → Answered

@@ -1,0 +1,73 @@
+-- What holds of all values of some bits, by one test that antt computes; so the bits of 0Fh and 10h can be put one by one. Assumes nothing.
+use mathlib.Core.Path.{_≡_, refl, sym, _∙_}
+use mathlib.Core.Bool.{Bool, true, false, cond, _&&_, Bool·beq}
+use Prim.Native.Nat.{ℕ, zero, suc, _+_, _<_}
+use lib.Dec.{T, eqb, eqb→eq, lit<}
+use Rattle.fields.proofs.Below.{both-left, both-right, agree}
+use Rattle.promises.specs.Registers.{bit, put}
+
+-- a test of n bits
+abbrev pub Test : ℕ → Type 0
+Test zero = Bool
+Test (suc n) = Bool → Test n
+
+-- it holds of all their values
+abbrev pub allOf : (n : ℕ) → Test n → Bool
+allOf zero t = t
+allOf (suc n) t = allOf n (t true) && allOf n (t false)
+
+abbrev pub Each : (n : ℕ) → Test n → Type 0
+Each zero t = T t
+Each (suc n) t = (b : Bool) → Each n (t b)
+
+one-bit : (n : ℕ) (t : Test (suc n)) → T (allOf (suc n) t) → (b : Bool) → T (allOf n (t b))
+one-bit n t h true = both-left (allOf n (t true)) (allOf n (t false)) h
+one-bit n t h false = both-right (allOf n (t true)) (allOf n (t false)) h
+
+pub each-bit : (n : ℕ) (t : Test n) → T (allOf n t) → Each n t
+each-bit zero t h = h
+each-bit (suc n) t h = λ b. each-bit n (t b) (one-bit n t h b)
+
+-- two bits that are tested to be the same
+pub same : (a b : Bool) → T (Bool·beq a b) → a ≡ b
+same true true t = refl
+same true false t = absurd t
+same false true t = absurd t
+same false false t = refl
+
+-- 0Fh, of its five bits
+abbrev pub ctr1 : Bool → Bool → Bool → Bool → Bool → ℕ
+ctr1 a b c d e = cond a 0x80 0 + cond b 0x20 0 + cond c 0x10 0 + cond d 0x04 0 + cond e 0x01 0
+
+-- 10h, of its eight bits
+abbrev pub ctr2 : Bool → Bool → Bool → Bool → Bool → Bool → Bool → Bool → ℕ
+ctr2 a b c d e f g h =
+    cond a 0x80 0 + cond b 0x40 0 + cond c 0x20 0 + cond d 0x10 0 + cond e 0x08 0 + cond f 0x04 0 + cond g 0x02 0 + cond h 0x01 0
+
+module _ (a b c d e : Bool) where
+  pub put-intaf : (x : Bool) → put 5 x (ctr1 a b c d e) ≡ ctr1 a x c d e
+  put-intaf x = eqb→eq _ _ (each-bit 6 (λ x a b c d e. eqb (put 5 x (ctr1 a b c d e)) (ctr1 a x c d e)) tt x a b c d e)
+
+  pub put-flags : (x y : Bool) → put 5 x (put 4 y (ctr1 a b c d e)) ≡ ctr1 a x y d e
+  put-flags x y = eqb→eq _ _ (each-bit 7 (λ x y a b c d e. eqb (put 5 x (put 4 y (ctr1 a b c d e))) (ctr1 a x y d e)) tt x y a b c d e)
+
+  pub put-lock : (x y : Bool) → put 7 x (put 2 y (ctr1 a b c d e)) ≡ ctr1 x b c y e
+  put-lock x y = eqb→eq _ _ (each-bit 7 (λ x y a b c d e. eqb (put 7 x (put 2 y (ctr1 a b c d e))) (ctr1 x b c y e)) tt x y a b c d e)
+
+pub put-wrtc1 : (a b c d e f g h x : Bool) → put 7 x (ctr2 a b c d e f g h) ≡ ctr2 x b c d e f g h
+put-wrtc1 a b c d e f g h x =
+    eqb→eq _ _ (each-bit 9 (λ a b c d e f g h x. eqb (put 7 x (ctr2 a b c d e f g h)) (ctr2 x b c d e f g h)) tt a b c d e f g h x)
+
+-- a byte is the sum of its bits
+abbrev summed : ℕ → ℕ
+summed b = ctr2 (bit 7 b) (bit 6 b) (bit 5 b) (bit 4 b) (bit 3 b) (bit 2 b) (bit 1 b) (bit 0 b)
+
+pub summed-same : (b : ℕ) → b < 256 → summed b ≡ b
+summed-same = agree summed (λ (b : ℕ). b) 256 tt
+
+-- so two bytes with the same bits are the same
+pub same-bits : (x y : ℕ) → x < 256 → y < 256 → ((n : ℕ) → n < 8 → bit n x ≡ bit n y) → x ≡ y
+same-bits x y h l e =
+    sym (summed-same x h)
+    ∙ (λ i. ctr2 (e 7 (lit< tt) i) (e 6 (lit< tt) i) (e 5 (lit< tt) i) (e 4 (lit< tt) i) (e 3 (lit< tt) i) (e 2 (lit< tt) i) (e 1 (lit< tt) i) (e 0 (lit< tt) i))
+    ∙ summed-same y l

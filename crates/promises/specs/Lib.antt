@@ -1,0 +1,9 @@
+pub mod Registers
+pub mod Fixed
+pub mod Pin
+pub mod Written
+pub mod Pulsed
+pub mod Seen
+pub mod Script
+pub mod Ledger
+pub mod Marked
