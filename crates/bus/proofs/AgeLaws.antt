@@ -1,10 +1,10 @@
--- An open transfer ages by the pulses and closes at 16,384; a closed bus stays closed. Assumes nothing.
-use mathlib.Core.Path.{_≡_, refl}
+-- An open transfer ages by the pulses and closes at 16,384. Assumes nothing.
+use mathlib.Core.Path.{_≡_}
 use Prim.Native.Nat.{ℕ, _+_, _≤_, _<_}
 use borrow.Author.Tests.{lt-ltb, le-ltb}
 use Rattle.bus.specs.declared.phase.Mode.{Mode}
 use Rattle.bus.specs.declared.phase.Transfer.{Transfer}
-use Rattle.bus.specs.declared.phase.Phase.the-variants.{Closed, Open}
+use Rattle.bus.specs.declared.phase.Phase.the-variants.{Open}
 use Rattle.bus.specs.Phase.{closedBus, olderOf}
 
 module _ (p : ℕ) (m : Mode) (t : Transfer) (n : ℕ) where
@@ -13,6 +13,3 @@ module _ (p : ℕ) (m : Mode) (t : Transfer) (n : ℕ) where
 
   pub times-out : 16384 ≤ t .age + n → olderOf (record { pointer = p; phase = Open m t }) n ≡ closedBus
   times-out h = simp (le-ltb (t .age + n) 16384 h)
-
-pub stays-closed : (p n : ℕ) → olderOf (record { pointer = p; phase = Closed }) n ≡ record { pointer = p; phase = Closed }
-stays-closed p n = refl

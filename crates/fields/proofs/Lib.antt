@@ -1,5 +1,6 @@
 pub mod Answers
 pub mod Below
+pub mod Bits
 pub mod FieldLaws
 mod HourCodes
 pub mod HourLaws

@@ -28,7 +28,7 @@ use Rattle.hand.specs.Span.{trimmedSpan, secondSpan, spanOf, Most, Legal
 use Rattle.hand.specs.declared.hand.Hand.{Hand}
 
 -- the length of a trimmed second by arithmetic, over all values of F
-trimmed-span : (f : ℕ) → f < 128 → natAbs (pos 32768 +ℤ changeOf f) ≡ trimmedSpan f
+pub trimmed-span : (f : ℕ) → f < 128 → natAbs (pos 32768 +ℤ changeOf f) ≡ trimmedSpan f
 unfolding changeOf
 trimmed-span = agree (λ (f : ℕ). natAbs (pos 32768 +ℤ changeOf f)) trimmedSpan 128 tt
 

@@ -1,10 +1,10 @@
 -- A stored byte moves the hand at the registers of the time and at the trim only, and 00h alone sets the counter. Assumes nothing.
 use mathlib.Core.Path.{_≡_, refl}
-use Prim.Native.Nat.{ℕ, _≤_}
+use Prim.Native.Nat.{ℕ, _≤_, _<_}
 use native.Mathlib.Omega.{arith}
-use lib.Dec.{ltb}
-use borrow.Author.Tests.{le-ltb, ne-eqb}
-use Rattle.fields.proofs.Picked.{picked}
+use borrow.Author.Tests.{lt-ltb, le-ltb, ne-eqb}
+use Rattle.registers.specs.Fixed.{keptOf}
+use Rattle.registers.specs.Seven.{withByteOf}
 use Rattle.hand.specs.Hand.{storedOf}
 use Rattle.hand.specs.declared.hand.Hand.{Hand}
 
@@ -14,12 +14,11 @@ unfolding storedOf
 hand-kept h a b past other = simp (le-ltb a 0x07 past, ne-eqb a 0x12 other)
 
 -- the seconds begin the second anew
-pub stored-second : (h : Hand) (b : ℕ) → storedOf h 0x00 b .counter ≡ 0
+pub stored-second : (h : Hand) (b : ℕ) → storedOf h 0x00 b ≡ record { time = withByteOf (h .time) 0x00 (keptOf 0x00 b); counter = 0; trim = h .trim }
 unfolding storedOf
 stored-second h b = refl
 
--- no other byte does
-pub stored-later : (h : Hand) (a b : ℕ) → 1 ≤ a → storedOf h a b .counter ≡ h .counter
+-- and no other byte of the time does
+pub stored-later : (h : Hand) (a b : ℕ) → 1 ≤ a → a < 7 → storedOf h a b ≡ record { time = withByteOf (h .time) a (keptOf a b); counter = h .counter; trim = h .trim }
 unfolding storedOf
-stored-later h a b past =
-    picked (λ (n : ℕ). n ≡ h .counter) (ltb a 0x07) (simp (ne-eqb a 0x00 (λ e. omega arith))) refl
+stored-later h a b past low = simp (lt-ltb a 0x07 low, ne-eqb a 0x00 (λ e. omega arith), ne-eqb a 0x12 (λ e. omega arith))

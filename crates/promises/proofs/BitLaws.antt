@@ -1,32 +1,12 @@
--- What holds of all values of some bits, by one test that antt computes; so the bits of 0Fh and 10h can be put one by one. Assumes nothing.
+-- The bits of 0Fh and 10h can be put one by one, by tests of all their values that antt computes. Assumes nothing.
 use mathlib.Core.Path.{_≡_, refl, sym, _∙_}
-use mathlib.Core.Bool.{Bool, true, false, cond, _&&_, Bool·beq}
-use Prim.Native.Nat.{ℕ, zero, suc, _+_, _<_}
+use mathlib.Core.Bool.{Bool, true, false, cond, Bool·beq}
+use Prim.Native.Nat.{ℕ, _+_, _<_}
 use lib.Dec.{T, eqb, eqb→eq, lit<}
-use Rattle.fields.proofs.Below.{both-left, both-right, agree}
+use Rattle.fields.proofs.Below.{agree}
+use Rattle.fields.proofs.Bits.{each-bit}
+use Rattle.sd2068.proofs.ListedLaws.{ctr1}
 use Rattle.promises.specs.Registers.{bit, put}
-
--- a test of n bits
-abbrev pub Test : ℕ → Type 0
-Test zero = Bool
-Test (suc n) = Bool → Test n
-
--- it holds of all their values
-abbrev pub allOf : (n : ℕ) → Test n → Bool
-allOf zero t = t
-allOf (suc n) t = allOf n (t true) && allOf n (t false)
-
-abbrev pub Each : (n : ℕ) → Test n → Type 0
-Each zero t = T t
-Each (suc n) t = (b : Bool) → Each n (t b)
-
-one-bit : (n : ℕ) (t : Test (suc n)) → T (allOf (suc n) t) → (b : Bool) → T (allOf n (t b))
-one-bit n t h true = both-left (allOf n (t true)) (allOf n (t false)) h
-one-bit n t h false = both-right (allOf n (t true)) (allOf n (t false)) h
-
-pub each-bit : (n : ℕ) (t : Test n) → T (allOf n t) → Each n t
-each-bit zero t h = h
-each-bit (suc n) t h = λ b. each-bit n (t b) (one-bit n t h b)
 
 -- two bits that are tested to be the same
 pub same : (a b : Bool) → T (Bool·beq a b) → a ≡ b
@@ -34,10 +14,6 @@ same true true t = refl
 same true false t = absurd t
 same false true t = absurd t
 same false false t = refl
-
--- 0Fh, of its five bits
-abbrev pub ctr1 : Bool → Bool → Bool → Bool → Bool → ℕ
-ctr1 a b c d e = cond a 0x80 0 + cond b 0x20 0 + cond c 0x10 0 + cond d 0x04 0 + cond e 0x01 0
 
 -- 10h, of its eight bits
 abbrev pub ctr2 : Bool → Bool → Bool → Bool → Bool → Bool → Bool → Bool → ℕ

@@ -1,4 +1,3 @@
-pub mod StepLaws
 pub mod BitLaws
 pub mod FixedLaws
 pub mod RegisterLaws

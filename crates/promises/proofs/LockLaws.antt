@@ -10,7 +10,8 @@ use Rattle.sd2068.specs.Reading.{controlAtOf, registerOf}
 use Rattle.sd2068.specs.Writing.{storesOf}
 use Rattle.promises.specs.Registers.{bit, put, lockOpen}
 use Rattle.promises.specs.Written.{lockedAt, storesAt}
-use Rattle.promises.proofs.BitLaws.{ctr1, put-lock, put-wrtc1}
+use Rattle.sd2068.proofs.ListedLaws.{ctr1}
+use Rattle.promises.proofs.BitLaws.{put-lock, put-wrtc1}
 use Rattle.promises.proofs.RegisterLaws.{aside, aside-two, wrtc1, wrtc2, wrtc3}
 
 -- 0Fh with the lock bits that a byte there gives, and with both cleared by 10h

@@ -1,5 +1,5 @@
 -- Everything that is promised of the clock, in one place: each promise is stated here, and its proof is the law that it cites. Assumes nothing.
-use mathlib.Core.Path.{_≡_}
+use mathlib.Core.Path.{_≡_, subst}
 use mathlib.Core.Logic.{_↔_}
 use mathlib.Core.Bool.{true, false, _&&_, not}
 use mathlib.Core.List.{List, [], _∷_, _++_}
@@ -19,6 +19,8 @@ use Rattle.sd2068.specs.Step.{Told, stepOf}
 use Rattle.sd2068.specs.Rows.{StepDue, PowerDue}
 use Rattle.sd2068.specs.Run.{step, event, after}
 use Rattle.sd2068.specs.Kept.{pulsesSince, Kept, readBack, ReadsBack, KeepsTime}
+use Rattle.sd2068.proofs.WellLaws.{whole, power-on-well, steps-well}
+use Rattle.sd2068.proofs.RowLaws as rows
 use Rattle.sd2068.proofs.ListedLaws.{well-listed, listed-well}
 use Rattle.sd2068.proofs.KeptLaws.{event-kept, step-kept, one-reading, same-reading}
 use Rattle.script.specs.Rows.{headerWord, listedOf, startsOf, Due}
@@ -32,7 +34,6 @@ use Rattle.promises.specs.Script.{Scripted, KeepsTimeIn}
 use Rattle.promises.specs.Ledger.{digitsOf, digitsRead, SameMinute}
 use Rattle.promises.specs.Marked.{Marked}
 use Rattle.promises.proofs.FixedLaws as bits
-use Rattle.promises.proofs.StepLaws as steps
 use Rattle.promises.proofs.SeenLaws as seen
 use Rattle.promises.proofs.StateLaws as state
 use Rattle.promises.proofs.ViewLaws as view
@@ -59,18 +60,18 @@ module _ (c : Clock) (kind byte count : ℕ) where
 
   -- a step is refused with n exactly if n is due; 0 is due where no row holds
   pub step-refusal : (n : ℕ) → (told .refusal ≡ n) ↔ StepDue c kind byte count n
-  step-refusal = steps.step-exactly c kind byte count
+  step-refusal n = (λ e. subst (StepDue c kind byte count) e (rows.step-due c kind byte count), rows.step-only)
 
   -- refused, it hands back its state, answers -- and shows that state's pin
   pub step-unchanged : (told .refusal ≡ 0 → ⊥) → told ≡ record { refusal = told .refusal; state = c; answer = 45 ∷ 45 ∷ []; pin = pinOf c }
-  step-unchanged = steps.step-refused c kind byte count
+  step-unchanged = rows.step-refused c kind byte count
 
 -- the same of a power-on, which gives what 19 zero bytes would have
 pub power-refusal : (s : List ℕ) (n : ℕ) → (powerOnOf s .refusal ≡ n) ↔ PowerDue s n
-power-refusal = steps.power-exactly
+power-refusal s n = (λ e. subst (PowerDue s) e (rows.power-due s), rows.power-only)
 
 pub power-unchanged : (s : List ℕ) → (powerOnOf s .refusal ≡ 0 → ⊥) → powerOnOf s .state ≡ zeroStart
-power-unchanged = steps.power-refused
+power-unchanged = rows.power-refused
 
 module _ (file out : List ℕ) where
   abbrev ran : Run
@@ -86,7 +87,9 @@ module _ (file out : List ℕ) where
 
 -- whatever steps follow a power-on, the state may be handed in again
 pub always-well-formed : (s : List ℕ) (es : List Event) → Listed (after step (powerOnOf s .state) es)
-always-well-formed = steps.steps-listed
+always-well-formed s es =
+    let c = after step (powerOnOf s .state) es in
+    well-listed c (whole c (steps-well (powerOnOf s .state) (power-on-well s) es))
 
 -- Promise 2: what is not refused does what the rules say, with nothing left free.
 

@@ -5,7 +5,6 @@ use Prim.Native.Nat.{ℕ, zero, suc, _+_, _-_, _/_, _%_, _≤_, _<_}
 use native.Mathlib.Omega.{arith}
 use lib.Dec.{eqb, ltb}
 use lib.ListN.{getD}
-use lib.IntN.{pos, _+ℤ_, natAbs}
 use borrow.Author.Tests.{ne-eqb, lt-ltb, le-ltb}
 use Rattle.fields.proofs.Below.{agree}
 use Rattle.calendar.specs.declared.time.Time.{Time}
@@ -13,7 +12,7 @@ use Rattle.calendar.specs.Advance.{advanceOf}
 use Rattle.calendar.specs.Repeat.{times}
 use Rattle.registers.specs.Counters.{reachedOf, turnedOf}
 use Rattle.registers.specs.Seven.{byteAtOf}
-use Rattle.hand.specs.Trim.{changeOf, lengthOf}
+use Rattle.hand.specs.Trim.{lengthOf}
 use Rattle.hand.specs.Hand.{endsOf, tickedOf}
 use Rattle.hand.proofs.SecondLaws.{counter-tells}
 use Rattle.alarm.specs.Matching.{weekdayIn, matchesOf}
@@ -30,17 +29,15 @@ use Rattle.sd2068.specs.declared.clock.Clock.{Clock}
 use Rattle.sd2068.specs.Controls.{tdsOf}
 use Rattle.sd2068.specs.Pulse.{pulseOf, pulsesOf}
 use Rattle.sd2068.specs.Reading.{controlAtOf, registerOf}
+use Rattle.hand.proofs.SpanLaws.{trimmed-span}
 use Rattle.sd2068.proofs.GroupLaws.{by-itself}
 use Rattle.promises.specs.Registers.{bit, innerOf, viewOf, sevenFrom}
-use Rattle.promises.specs.Pulsed.{trimmed, secondLength, tickLengths, agrees, matchesAt, ends, timeAfter, ticks, fires, rings, pulsedAt, pulsedInner, agedPointer, agedPhase, afterPulse}
-use Rattle.promises.proofs.BitLaws.{ctr1, put-flags}
+use Rattle.promises.specs.Pulsed.{secondLength, tickLengths, agrees, matchesAt, ends, timeAfter, ticks, fires, rings, pulsedAt, pulsedInner, agedPointer, agedPhase, afterPulse}
+use Rattle.sd2068.proofs.ListedLaws.{ctr1}
+use Rattle.promises.proofs.BitLaws.{put-flags}
 use Rattle.promises.proofs.RegisterLaws.{by-rows, intaf, intdf, intde, intae, ctr3}
 
--- the lengths of a second and of a tick, over all values of the trim and of TDS
-trimmed-same : (f : ℕ) → f < 128 → natAbs (pos 32768 +ℤ changeOf f) ≡ trimmed f
-unfolding changeOf trimmed
-trimmed-same = agree (λ (k : ℕ). natAbs (pos 32768 +ℤ changeOf k)) trimmed 128 tt
-
+-- the length of a tick, over all values of TDS
 limit-same : (tds : ℕ) → tds < 4 → limitOf tds ≡ getD tickLengths tds 0
 limit-same = agree limitOf (λ (tds : ℕ). getD tickLengths tds 0) 4 tt
 
@@ -93,7 +90,7 @@ module _ (c : Clock) where
   -- the pulse ends the second
   ends-same : endsOf (c .hand) ≡ ends (registerOf c) (innerOf c)
   unfolding ends secondLength lengthOf registerOf controlAtOf byteAtOf
-  ends-same = simp (trimmed-same (c .hand .trim % 128) (omega arith))
+  ends-same = simp (trimmed-span (c .hand .trim % 128) (omega arith))
 
   -- the countdown ticks, and fires
   abbrev ticked : Bool

@@ -19,9 +19,9 @@ use Rattle.sd2068.specs.WellFormed.{wellFormedOf}
 use Rattle.sd2068.specs.Step.{quietOf, eventOf, refusalOf, stepOf}
 use Rattle.sd2068.specs.Run.{byte, toldBy, step, after, readBy, readsOf}
 use Rattle.sd2068.specs.Kept.{setBy}
-use Rattle.sd2068.proofs.WellLaws.{whole, power-on-well}
+use Rattle.sd2068.proofs.WellLaws.{whole, power-on-well, steps-well}
 use Rattle.sd2068.proofs.SettingLaws.{after-add}
-use Rattle.sd2068.proofs.KeptLaws.{steps-well, step-kept}
+use Rattle.sd2068.proofs.KeptLaws.{step-kept}
 use Rattle.script.specs.Rows.{headerWord, startsOf}
 use Rattle.script.specs.Lines.{lineOf, linesOf}
 use Rattle.script.specs.File.{Run, runOf}

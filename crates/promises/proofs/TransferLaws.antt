@@ -25,7 +25,8 @@ use Rattle.sd2068.specs.Clock.{withBus}
 use Rattle.sd2068.specs.Writing.{writeOf}
 use Rattle.promises.specs.Registers.{put, viewOf, innerOf}
 use Rattle.promises.specs.Seen.{startedPhase, startSeen, isMarked, stoppedAt, stopSeen, Seen, byteSeen, readSeen}
-use Rattle.promises.proofs.BitLaws.{ctr1, put-flags}
+use Rattle.sd2068.proofs.ListedLaws.{ctr1}
+use Rattle.promises.proofs.BitLaws.{put-flags}
 use Rattle.promises.proofs.RegisterLaws.{aside}
 use Rattle.promises.proofs.WriteLaws.{write-at, write-inner}
 

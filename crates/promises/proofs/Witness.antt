@@ -45,11 +45,11 @@ use Rattle.sd2068.specs.Pin.{pinOf}
 use Rattle.sd2068.specs.Transfer.{stoppedOf, byteOf, renewedOf, readOf}
 use Rattle.sd2068.specs.WellFormed.{wellFormedOf}
 use Rattle.sd2068.specs.Step.{eventOf, refusalOf, stepOf}
-use Rattle.sd2068.proofs.WellLaws.{whole, power-on-well}
-use Rattle.sd2068.proofs.ReadBackLaws.{read-shown}
-use Rattle.sd2068.proofs.KeptLaws.{steps-well, event-kept, step-kept, by-steps, one-reading}
 use Rattle.sd2068.specs.Run.{start, stop, byte, ack, nak, pulses, Machine, step, event, after, pulsesIn, spoken, readsOf}
 use Rattle.sd2068.specs.Kept.{Stores, Spares, Spares.none as none, Spares.more as more, setBy, pulsesSince, Kept, readBack, shownBy, KeepsTime}
+use Rattle.sd2068.proofs.WellLaws.{whole, power-on-well, steps-well}
+use Rattle.sd2068.proofs.ReadBackLaws.{read-shown}
+use Rattle.sd2068.proofs.KeptLaws.{event-kept, step-kept, by-steps, one-reading}
 
 -- 12h:00:00 on 01-01-00, and an empty RAM
 abbrev pub started : List ℕ

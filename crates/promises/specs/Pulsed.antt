@@ -1,23 +1,20 @@
 -- One pulse, over register numbers. (rules 4.1 to 4.6, 5.1 to 5.9 and 6.12)
 use mathlib.Core.Bool.{Bool, true, cond, _&&_, _||_, not}
 use mathlib.Core.List.{List, [], _∷_}
-use Prim.Native.Nat.{ℕ, _+_, _-_, _*_, _/_, _%_}
+use Prim.Native.Nat.{ℕ, _+_, _-_, _/_, _%_}
 use lib.Dec.{eqb, ltb, leb}
 use lib.ListN.{getD}
 use Rattle.calendar.specs.declared.time.Time.{Time}
 use Rattle.calendar.specs.Advance.{advanceOf}
+use Rattle.hand.specs.Span.{trimmedSpan}
 use Rattle.registers.specs.Seven.{byteAtOf}
 use Rattle.bus.specs.declared.phase.Phase.{Phase}
 use Rattle.bus.specs.declared.phase.Phase.the-variants.{Closed, Open}
 use Rattle.promises.specs.Registers.{bit, put, Inner, View, sevenFrom}
 
--- the pulses of a second that the trim changes, by the low seven bits of 12h (rule 4.3)
-unfoldable pub trimmed : ℕ → ℕ
-trimmed f = cond (leb 2 f && leb f 63) (32768 + 2 * (f - 1)) (cond (leb 66 f) (32768 - 2 * (128 - f)) 32768)
-
--- the pulses of the present second: the trim counts while 00h reads 00h, 20h or 40h (rule 4.2)
+-- the pulses of the present second: the trim counts while 00h reads 00h, 20h or 40h (rules 4.2 and 4.3)
 unfoldable pub secondLength : (ℕ → ℕ) → ℕ
-secondLength r = cond (eqb (r 0x00) 0x00 || eqb (r 0x00) 0x20 || eqb (r 0x00) 0x40) (trimmed (r 0x12 % 128)) 32768
+secondLength r = cond (eqb (r 0x00) 0x00 || eqb (r 0x00) 0x20 || eqb (r 0x00) 0x40) (trimmedSpan (r 0x12 % 128)) 32768
 
 -- the pulses of a tick, by TDS (rule 5.7)
 abbrev pub tickLengths : List ℕ

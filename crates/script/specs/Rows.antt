@@ -1,12 +1,11 @@
 -- The rows of the refusals' table that are a file's, each written from its row alone. (rules 9.1 to 9.4)
 use mathlib.Core.Path.{_≡_}
-use mathlib.Core.Bool.{false}
 use mathlib.Core.List.{List, [], _∷_}
 use Prim.Native.Nat.{ℕ, zero, suc, _+_, _*_, _≤_, _<_}
 use lib.ListN.{length, getD, take, drop}
-use Rattle.registers.specs.Fixed.{clearOf}
 use Rattle.events.specs.declared.event.Event.{Event}
 use Rattle.events.specs.Rows as rows
+use Rattle.sd2068.specs.Rows as power
 
 -- word n of the header: 0 the event count, 1 the events' offset, 2 the start byte count, 3 the start bytes' offset
 abbrev pub headerWord : List ℕ → ℕ → ℕ
@@ -71,10 +70,8 @@ pub data Row5 (file : List ℕ) : Type 0 where
   past : {at n : ℕ} → Section file at n → length file < at → Row5 file
 
 -- row 6: the start byte of register r, 00h to 06h, has a fixed bit set
-pub record Row6 (file : List ℕ) : Type 0 where
-  pub r : ℕ
-  pub time : r < 7
-  pub fixed : clearOf r (getD file (headerWord file 3 + r) 0) ≡ false
+abbrev pub Row6 : List ℕ → Type 0
+Row6 file = power.Row6 (startsOf file)
 
 -- row 7: an output shorter than five bytes an event
 abbrev pub Row7 : List ℕ → ℕ → Type 0

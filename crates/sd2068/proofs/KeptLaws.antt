@@ -15,7 +15,7 @@ use Rattle.sd2068.specs.declared.clock.Clock.{Clock}
 use Rattle.sd2068.specs.Reading.{controlAtOf, registerOf}
 use Rattle.sd2068.specs.Step.{stepOf, refusalOf}
 use Rattle.sd2068.specs.WellFormed.{wellFormedOf}
-use Rattle.sd2068.proofs.WellLaws.{Well, parts, whole, step-well}
+use Rattle.sd2068.proofs.WellLaws.{Well, parts, whole, step-well, steps-well}
 use Rattle.sd2068.specs.Run.{Outcome, Machine, byte, step, event, after, pulsesIn, readBy, readsOf}
 use Rattle.sd2068.specs.Kept.{Spares, Spares.none as none, Spares.more as more, Setting, setBy, pulsesSince, Reading, Kept, shownBy, ReadsBack, KeepsTime}
 use Rattle.sd2068.proofs.SettingLaws.{set-hand}
@@ -67,11 +67,6 @@ module _ (c : Clock) (w : Well c) (e : Event) where
 
   pub event-after : Well (event c e .state)
   event-after = subst (λ (o : Outcome). Well (o .state)) step-event step-after
-
-pub steps-well : (c : Clock) → Well c → (es : List Event) → Well (after step c es)
-unfolding after
-steps-well c w [] = w
-steps-well c w (e ∷ es) = steps-well (step c e .state) (step-after c w e) es
 
 -- two machines that agree on well-formed states, of which the first keeps them so
 module _ (m n : Machine) (agree : (c : Clock) → Well c → (e : Event) → m c e ≡ n c e) (keeps : (c : Clock) → Well c → (e : Event) → Well (m c e .state)) where

@@ -1,13 +1,13 @@
 -- A state is well formed exactly if it is as refusal 1's row lists it. Assumes nothing.
 use mathlib.Core.Path.{_≡_, refl, sym, subst}
-use mathlib.Core.Bool.{Bool, true, false, cond, _&&_, _||_, not, true≢false}
+use mathlib.Core.Bool.{Bool, true, false, cond, _||_, not, true≢false}
 use Prim.Native.Nat.{ℕ, _+_, _≤_, _<_}
 use native.Mathlib.Omega.{arith}
-use lib.Dec.{T, eqb, eqb→eq}
+use lib.Dec.{eqb, eqb→eq}
 use lib.ListN.{getD}
 use borrow.Author.Count.{below-none, below-more}
 use borrow.Author.Tests.{eqb-true, eq-eqb}
-use Rattle.fields.proofs.Below.{both-left, both-right}
+use Rattle.fields.proofs.Bits.{each-bit}
 use Rattle.registers.specs.Fixed.{keptCtr1, keptTime, keptAlarm, keptControl, keptOf, clearOf, clearTimeOf}
 use Rattle.registers.specs.Seven.{byteAtOf}
 use Rattle.registers.proofs.FixedLaws.{time-bytes}
@@ -38,30 +38,12 @@ infixl 20 _also_
 pub _also_ : {P : ℕ → Type 0} {n : ℕ} → First P n → P n → First P (n + 1)
 _also_ {P} {n} f p = record { each = below-more P n (f .each) p }
 
--- a test of both values of a bit
-abbrev both : (Bool → Bool) → Bool
-both f = f true && f false
-
-each-bit : (f : Bool → Bool) → T (both f) → (b : Bool) → T (f b)
-each-bit f t true = both-left (f true) (f false) t
-each-bit f t false = both-right (f true) (f false) t
-
 -- 0Fh is put together of its five bits and has no other
-abbrev sum : Bool → Bool → Bool → Bool → Bool → ℕ
-sum a b c d e = cond a 0x80 0 + cond b 0x20 0 + cond c 0x10 0 + cond d 0x04 0 + cond e 0x01 0
+abbrev pub ctr1 : Bool → Bool → Bool → Bool → Bool → ℕ
+ctr1 a b c d e = cond a 0x80 0 + cond b 0x20 0 + cond c 0x10 0 + cond d 0x04 0 + cond e 0x01 0
 
-abbrev right : Bool → Bool → Bool → Bool → Bool → Bool
-right a b c d e = eqb (keptCtr1 (sum a b c d e)) (sum a b c d e)
-
-ctr1-clear : (a b c d e : Bool) → keptCtr1 (sum a b c d e) ≡ sum a b c d e
-ctr1-clear a b c d e =
-    eqb→eq _ _
-    (each-bit (right a b c d)
-    (each-bit (λ d. both (right a b c d))
-    (each-bit (λ c. both (λ d. both (right a b c d)))
-    (each-bit (λ b. both (λ c. both (λ d. both (right a b c d))))
-    (each-bit (λ a. both (λ b. both (λ c. both (λ d. both (right a b c d))))) tt a)
-    b) c) d) e)
+ctr1-clear : (a b c d e : Bool) → keptCtr1 (ctr1 a b c d e) ≡ ctr1 a b c d e
+ctr1-clear a b c d e = eqb→eq _ _ (each-bit 5 (λ a b c d e. eqb (keptCtr1 (ctr1 a b c d e)) (ctr1 a b c d e)) tt a b c d e)
 
 lock-listed : (one two three : Bool) → one || not (two || three) ≡ true → one ≡ false → (two ≡ false) × (three ≡ false)
 lock-listed true two three h e = absurd (true≢false e)

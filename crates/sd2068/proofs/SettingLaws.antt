@@ -18,6 +18,7 @@ use Rattle.hand.specs.declared.hand.Hand.{Hand}
 use Rattle.hand.specs.Hand as hand
 use Rattle.hand.specs.Hand.{tickedOf}
 use Rattle.hand.specs.Span.{Legal}
+use Rattle.hand.proofs.StoredLaws.{stored-second, stored-later}
 use Rattle.hand.proofs.SpanLaws.{few-ticks, ticks-trim}
 use Rattle.control.specs.Lock.{writtenOf}
 use Rattle.bus.specs.declared.phase.Mode.{Mode}
@@ -172,7 +173,7 @@ to-writing trim p =
 module _ (t : Time) (trim : ℕ) where
   -- the seconds begin the second anew
   seconds-set : keptOf 0x00 (t .seconds) ≡ t .seconds → (a : ℕ) (c : Clock) → Before trim Writing 0 a c → Set t trim a 1 a (takenOf c (byte (t .seconds)) .clock)
-  unfolding eventOf hand.storedOf withByteOf
+  unfolding eventOf withByteOf
   seconds-set kept a c h =
       subst (Set t trim a 1 a) (sym (clock-of (hears-data c 0 (transferOf (h .listening)) (t .seconds) (h .listening .bus))))
       (record {
@@ -182,6 +183,7 @@ module _ (t : Time) (trim : ℕ) where
         passed = 0;
         hand =
             stored-hand c 0 (t .seconds) (omega arith) (h .unlocked)
+            ∙ stored-second (c .hand) (t .seconds)
             ∙ ap₂ (λ (b : ℕ) (f : ℕ). record { time = withByteOf (c .hand .time) 0 b; counter = 0; trim = f }) kept (h .trimmed);
         since = omega arith;
       })
@@ -189,8 +191,9 @@ module _ (t : Time) (trim : ℕ) where
   -- each byte after them leaves the counter
   module _ (s i b : ℕ) (from : 1 ≤ i) (to : i < 7) (mix : (old : Time) → withByteOf (mixed i t old) i (keptOf i b) ≡ mixed (i + 1) t old) where
     stored-next : (h : Hand) (old : Time) (n : ℕ) → h ≡ record { time = mixed i t old; counter = n; trim = trim } → hand.storedOf h i b ≡ record { time = mixed (i + 1) t old; counter = n; trim = trim }
-    unfolding hand.storedOf
-    stored-next h old n e = rw e (simp (lt-ltb i 0x07 to, ne-eqb i 0x00 (λ z. omega arith), ne-eqb i 0x12 (λ z. omega arith), mix old))
+    stored-next h old n e =
+        ap (λ (x : Hand). hand.storedOf x i b) e ∙ stored-later (record { time = mixed i t old; counter = n; trim = trim }) i b from to
+        ∙ ap (λ (x : Time). record { time = x; counter = n; trim = trim }) (mix old)
 
     next-set : Leads (set t trim s i) (byte b) [] (set t trim s (i + 1))
     unfolding eventOf

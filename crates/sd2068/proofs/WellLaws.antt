@@ -1,7 +1,7 @@
 -- Every event keeps a well-formed state well formed, so after a good start no step is refused with 1. Assumes nothing.
 use mathlib.Core.Path.{_≡_, refl, sym}
 use mathlib.Core.Bool.{Bool, true, false, cond, _&&_, true≢false}
-use mathlib.Core.List.{List}
+use mathlib.Core.List.{List, [], _∷_}
 use Prim.Native.Nat.{ℕ, zero, suc, _≤_}
 use native.Mathlib.Omega.{arith}
 use lib.Dec.{eqb, ltb}
@@ -33,6 +33,7 @@ use Rattle.bus.specs.Bytes.{heardOf}
 use Rattle.bus.specs.Reads as reads
 use Rattle.bus.proofs.WellLaws as bus-laws
 use Rattle.sd2068.specs.declared.clock.Clock.{Clock}
+use Rattle.events.specs.declared.event.Event.{Event}
 use Rattle.events.specs.Refusal.{fieldsOf, faultOf}
 use Rattle.sd2068.specs.declared.answers.Answered.{Answered}
 use Rattle.sd2068.specs.Controls.{tdsOf}
@@ -43,6 +44,7 @@ use Rattle.sd2068.specs.Pulse.{pulseOf, pulsesOf}
 use Rattle.sd2068.specs.Transfer.{startedOf, stoppedOf, effectedBy, byteOf, renewsOf, renewedOf, sentBy, readOf}
 use Rattle.sd2068.specs.WellFormed.{latchWell, dividerWell, wellFormedOf}
 use Rattle.sd2068.specs.Step.{eventOf, refusalOf, toldOf, stepOf}
+use Rattle.sd2068.specs.Run.{step, after}
 
 -- the parts of a state that is well formed
 pub record Well (c : Clock) : Type 0 where
@@ -266,14 +268,11 @@ module _ (c : Clock) (w : Well c) where
 pub step-keeps : (c : Clock) → wellFormedOf c ≡ true → (kind byte count : ℕ) → wellFormedOf (stepOf c kind byte count .state) ≡ true
 step-keeps c e kind byte count = whole (stepOf c kind byte count .state) (step-well c (parts c e) kind byte count)
 
--- the states that steps lead to from a power-on, refused or not
-pub data Reached : Clock → Type 0 where
-  powered : (s : List ℕ) → Reached (powerOnOf s .state)
-  stepped : {c : Clock} → Reached c → (kind byte count : ℕ) → Reached (stepOf c kind byte count .state)
-
-pub reached-well : {c : Clock} → Reached c → Well c
-reached-well (powered s) = power-on-well s
-reached-well (stepped {c} r kind byte count) = step-well c (reached-well r) kind byte count
+-- and so steps keep it, however many
+pub steps-well : (c : Clock) → Well c → (es : List Event) → Well (after step c es)
+unfolding after
+steps-well c w [] = w
+steps-well c w (e ∷ es) = steps-well (step c e .state) (step-well c w (e .kind) (e .byte) (e .count)) es
 
 -- refusal 1 is for states that are not well formed
 first-only : (well kinds fields : Bool) → well ≡ true → _≡_ {A = ℕ} (cond well (cond kinds (cond fields 0 3) 2) 1) 1 → ⊥
@@ -282,10 +281,11 @@ first-only true true false e h = omega arith
 first-only true false fields e h = omega arith
 first-only false kinds fields e h = absurd (true≢false (sym e))
 
-pub never-first : {c : Clock} → Reached c → (kind byte count : ℕ) → stepOf c kind byte count .refusal ≡ 1 → ⊥
+pub never-first : (s : List ℕ) (es : List Event) (kind byte count : ℕ) → stepOf (after step (powerOnOf s .state) es) kind byte count .refusal ≡ 1 → ⊥
 unfolding stepOf refusalOf
-never-first {c} r kind byte count =
-    first-only (wellFormedOf c) (ltb kind 7) (fieldsOf kind byte count) (whole c (reached-well r))
+never-first s es kind byte count =
+    let c = after step (powerOnOf s .state) es in
+    first-only (wellFormedOf c) (ltb kind 7) (fieldsOf kind byte count) (whole c (steps-well (powerOnOf s .state) (power-on-well s) es))
 
 -- on a well-formed state an event that is not at fault is taken, and does what its definition says
 pub step-taken : (c : Clock) → Well c → (kind byte count : ℕ) → faultOf kind byte count ≡ 0 → stepOf c kind byte count ≡ toldOf 0 (eventOf c kind byte count)
