@@ -1,4 +1,6 @@
 // The lines that are printed. (rule 8.1)
+use crate::form::rest_of;
+use crate::tally::Tally;
 use events::Answer;
 use events::Refusal;
 use libc::STDOUT_FILENO;
@@ -9,8 +11,7 @@ use sd2068::Stepped;
 pub fn print_refusal(refusal: Refusal) {
     let n = refusal.number();
     if 0 < n {
-        print(b"refused ");
-        io::print_decimal(STDOUT_FILENO, n as u64);
+        print_figure(b"refused ", n as u32);
         print(b"\n");
     }
 }
@@ -36,6 +37,11 @@ fn print(text: &[u8]) {
     io::write_all(STDOUT_FILENO, text);
 }
 
+fn print_figure(name: &[u8], n: u32) {
+    print(name);
+    io::print_decimal(STDOUT_FILENO, n as u64);
+}
+
 // A byte as a read answers it.
 fn print_byte(b: u8) {
     let pair = Answer::Byte(b).text();
@@ -50,9 +56,24 @@ fn print_bytes(bytes: &[u8]) {
     }
 }
 
-// All 32 registers as they stand.
-pub fn print_registers(c: Clock) {
-    let all = c.registers();
-    print_bytes(&all);
+// All of a state, the registers first.
+pub fn print_state(c: Clock) {
+    let registers = c.registers();
+    print_bytes(&registers);
+    let rest = rest_of(c);
+    print_bytes(&rest);
+    print(b"\n");
+}
+
+// What a batch of random files or steps comes to.
+pub fn print_batch(whole: bool, size: u32, x: u32, tally: Tally) {
+    if whole {
+        print_figure(b"files ", size);
+    } else {
+        print_figure(b"steps ", size);
+    }
+    print_figure(b" from ", x);
+    print_figure(b" refused ", tally.refused);
+    print_figure(b" digest ", tally.digest);
     print(b"\n");
 }

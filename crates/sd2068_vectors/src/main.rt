@@ -1,7 +1,21 @@
-// Runs the scripts on standard input, event by event, for comparison with lines made without the proved code.
+// Runs the items on standard input, for comparison with lines made without the proved code.
+mod arbitrary;
+mod batches;
+mod damage;
+mod digest;
+mod draws;
+mod files;
+mod form;
+mod items;
 mod lines;
+mod moves;
+mod pen;
 mod scripts;
+mod states;
+mod steps;
+mod tables;
+mod tally;
 
 fn main() {
-    scripts::run_all();
+    items::run_all();
 }

@@ -2,6 +2,7 @@
 
 use crate::bus::Phase;
 use crate::registers::{any_fixed_bit, CTR1, RAM, RTCF};
+use crate::{Manner, Reading};
 
 /// Seven time bytes and twelve bytes of RAM.
 pub const START_BYTES: usize = 19;
@@ -26,6 +27,8 @@ pub struct Chip {
     pub latch: [u8; 7],
     pub pointer: u8,
     pub phase: Phase,
+    /// How it takes the rules; not a part of the state.
+    pub manner: Manner,
 }
 
 /// What one event answers.
@@ -54,18 +57,39 @@ impl Chip {
     /// Power comes up with the given time and RAM.
     /// Refused with 5 for a wrong count, then 6 for a fixed bit in the time.
     pub fn power_on(bytes: &[u8]) -> Result<Chip, u8> {
+        Chip::power_on_reading(bytes, Reading::Right)
+    }
+
+    /// The same for a chip that takes the rules in its own way.
+    pub fn power_on_reading(bytes: &[u8], reading: Reading) -> Result<Chip, u8> {
         if bytes.len() != START_BYTES {
             return Err(5);
         }
         let (time, ram) = bytes.split_at(7);
-        if any_fixed_bit(time) {
+        let chip = Chip::fresh(time, ram, reading);
+        let refused = match reading {
+            Reading::AllStartBytesJudged => any_fixed_bit(bytes),
+            Reading::StartBitsUnjudged => false,
+            Reading::IllegalStartRefused => any_fixed_bit(time) || !chip.time_is_legal(),
+            _ => any_fixed_bit(time),
+        };
+        if refused {
             return Err(6);
         }
-        Ok(Chip::fresh(time, ram))
+        Ok(chip)
+    }
+
+    /// Powered up with zero bytes, as it is handed back with a refusal.
+    pub fn of_zeros(reading: Reading) -> Chip {
+        let mut chip = Chip::fresh(&[0; 7], &[0; START_BYTES - 7], reading);
+        if reading == Reading::RefusedStateZero {
+            chip.regs[CTR1] = 0;
+        }
+        chip
     }
 
     /// The state after power returned: only time and RAM hold something.
-    fn fresh(time: &[u8], ram: &[u8]) -> Chip {
+    fn fresh(time: &[u8], ram: &[u8], reading: Reading) -> Chip {
         let mut regs = [0; 32];
         regs[..7].copy_from_slice(time);
         regs[RAM..].copy_from_slice(ram);
@@ -81,6 +105,7 @@ impl Chip {
             latch: [0; 7],
             pointer: 0,
             phase: Phase::Closed,
+            manner: Manner::from(reading),
         }
     }
 
@@ -91,7 +116,7 @@ impl Chip {
 
     /// One event. A refused one (2, then 3) changes nothing.
     pub fn step(&mut self, kind: u8, byte: u8, count: u16) -> Result<Answer, u8> {
-        check_event(kind, byte, count)?;
+        check_as_read(kind, byte, count, self.manner.reading)?;
         Ok(match kind {
             0 => self.start(),
             1 => self.stop(),
@@ -118,23 +143,47 @@ impl Chip {
         self.run_pin_pulses();
         self.run_countdown();
         if self.second_ends() {
-            self.advance_time();
-            self.judge_alarm();
+            self.end_second();
         }
     }
 
+    /// The time advances, and the alarm is judged by the new one.
+    fn end_second(&mut self) {
+        if self.reads(Reading::AlarmBeforeAdvance) {
+            self.judge_alarm();
+            return self.advance_time();
+        }
+        let met_before = self.reads(Reading::AlarmAtFirstMatch) && self.alarm_meets_time();
+        self.advance_time();
+        if !met_before {
+            self.judge_alarm();
+        }
+        self.stray_after_second();
+    }
+
     fn lose_power(&mut self) -> Answer {
-        *self = Chip::fresh(&self.regs[..7], &self.regs[RAM..]);
+        let before = self.clone();
+        let (time, ram) = (&before.regs[..7], &before.regs[RAM..]);
+        *self = Chip::fresh(time, ram, before.manner.reading);
+        self.stray_after_power_loss(&before);
         Answer::None
     }
 }
 
 /// An event's refusal by itself: 2 for the kind, then 3 for the fields.
 pub fn check_event(kind: u8, byte: u8, count: u16) -> Result<(), u8> {
-    let fields_fit = match kind {
-        2 => count == 0,
-        5 => byte == 0 && count != 0,
-        0..=6 => byte == 0 && count == 0,
+    check_as_read(kind, byte, count, Reading::Right)
+}
+
+pub(crate) fn check_as_read(kind: u8, byte: u8, count: u16, reading: Reading) -> Result<(), u8> {
+    let fields_fit = match (kind, reading) {
+        (0..=6, Reading::FieldsUnjudged) => true,
+        (2, Reading::ZeroByteRefused) => byte != 0 && count == 0,
+        (2, _) => count == 0,
+        (5, Reading::NoPulsesFine) => byte == 0,
+        (5, _) => byte == 0 && count != 0,
+        (0..=6, _) => byte == 0 && count == 0,
+        (_, Reading::FieldsBeforeKind) if byte != 0 || count != 0 => false,
         _ => return Err(2),
     };
     if fields_fit {

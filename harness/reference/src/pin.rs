@@ -1,7 +1,8 @@
 //! The INT pin, the counters behind its pulses, and the free divider.
 
-use crate::registers::{CTR1, CTR2, CTR3, IM, INTAE, INTAF, INTDE, INTDF, INTFE};
-use crate::Chip;
+use crate::countdown::tick_length;
+use crate::registers::{CTR1, CTR2, CTR3, FOBAT, IM, INTAE, INTAF, INTDE, INTDF, INTFE};
+use crate::{Chip, Reading};
 
 /// How long an alarm or a countdown zero holds the pin in pulse mode.
 pub const PIN_PULSE: u16 = 8_192;
@@ -55,9 +56,29 @@ impl Chip {
         self.countdown_pulse = self.countdown_pulse.saturating_sub(1);
     }
 
+    /// The counter after an alarm or a zero, of which this much was left.
+    pub(crate) fn new_pulse(&self, flag: u8, left: u16) -> u16 {
+        let period = (u32::from(self.reload) + 1) * tick_length(self.regs[CTR3]);
+        match self.manner.reading {
+            Reading::PulseOneShort => PIN_PULSE - 1,
+            Reading::PulseOneLong => PIN_PULSE + 1,
+            Reading::PulseNeedsSource if !self.shows(flag) => left,
+            Reading::PulseNeedsPulseMode if self.regs[CTR2] & IM == 0 => left,
+            Reading::PulseNeedsClearFlag if self.regs[CTR1] & flag != 0 => left,
+            Reading::PulseNeedsLongPeriod if flag == INTDF && period <= PIN_PULSE.into() => left,
+            _ => PIN_PULSE,
+        }
+    }
+
+    /// Is the pin's source the one with this flag?
+    fn shows(&self, flag: u8) -> bool {
+        let source = if flag == INTAF { 1 } else { 3 };
+        self.pin_source() == source
+    }
+
     /// The level as it stands now.
     pub fn pin(&self) -> Pin {
-        match self.regs[CTR2] >> 4 & 3 {
+        match self.pin_source() {
             0 => Pin::H,
             1 => self.event_pin(INTAF, INTAE, self.alarm_pulse),
             2 => self.frequency_pin(),
@@ -65,28 +86,56 @@ impl Chip {
         }
     }
 
+    fn pin_source(&self) -> u8 {
+        let held_high = self.regs[CTR2] & FOBAT != 0;
+        match (self.manner.reading, self.regs[CTR2] >> 4 & 3) {
+            (Reading::FobatHoldsPin, _) if held_high => 0,
+            (Reading::SourceBitsTurned, source @ (1 | 2)) => 3 - source,
+            (_, source) => source,
+        }
+    }
+
     /// Pulse mode looks at the enable and the pulse, level mode at the flag.
     fn event_pin(&self, flag: u8, enable: u8, pulse: u16) -> Pin {
-        let low = if self.regs[CTR2] & IM == 0 {
-            self.regs[CTR1] & flag != 0
-        } else {
-            self.regs[CTR2] & enable != 0 && pulse > 0
-        };
-        Pin::low_if(low)
+        let flagged = self.regs[CTR1] & flag != 0;
+        let enabled = self.regs[CTR2] & enable != 0;
+        let pulsing = pulse > 0;
+        let level_mode = self.regs[CTR2] & IM == 0;
+        Pin::low_if(match self.manner.reading {
+            Reading::EnableCutsLevel if level_mode => flagged && enabled,
+            Reading::FlagCutsPulse if !level_mode => flagged && enabled && pulsing,
+            Reading::PulseWithoutEnable if !level_mode => pulsing,
+            _ if level_mode => flagged,
+            _ => enabled && pulsing,
+        })
     }
 
     fn frequency_pin(&self) -> Pin {
-        if self.regs[CTR2] & INTFE == 0 {
+        if self.regs[CTR2] & INTFE == 0 && !self.reads(Reading::FrequencyWithoutEnable) {
             return Pin::H;
         }
         match self.regs[CTR3] & 15 {
             0 => Pin::H,
             1 => Pin::X,
-            15 => Pin::low_if(self.second_counter < 16_384),
-            fs => {
-                let period = PERIODS[usize::from(fs) - 2];
-                Pin::low_if(self.divider % period < period / 2)
-            }
+            15 => Pin::low_if(self.first_half_of_second()),
+            fs => Pin::low_if(self.first_half_of(PERIODS[usize::from(fs) - 2])),
+        }
+    }
+
+    fn first_half_of_second(&self) -> bool {
+        match self.manner.reading {
+            Reading::OneHertzByDivider => self.first_half_of(32_768),
+            Reading::OneHertzHalvesSecond => self.second_counter < self.present_length() / 2,
+            _ => self.second_counter < 16_384,
+        }
+    }
+
+    fn first_half_of(&self, period: u32) -> bool {
+        let half = period / 2;
+        match self.manner.reading {
+            Reading::FrequencyHighFirst => self.divider % period >= half,
+            Reading::FrequencyOneLate => (self.divider + period - 1) % period < half,
+            _ => self.divider % period < half,
         }
     }
 }

@@ -1,10 +1,9 @@
 //! Test input for programs that run chip scripts, and the output they owe.
 
+pub mod chance;
 pub mod file;
 pub mod lines;
-pub mod noise;
 pub mod program;
-pub mod random;
 pub mod scenarios;
 pub mod script;
 #[cfg(test)]

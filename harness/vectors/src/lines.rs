@@ -1,42 +1,54 @@
-//! The output that scripts owe, line by line.
+//! The output that an input owes, line by line.
 
-use crate::script::{Event, Script};
-use reference::{Answer, Chip, START_BYTES};
+use crate::script::{Event, Item, Script};
+use reference::{Answer, Chip, Reading};
 
-/// The output of all scripts, one after the other.
-pub fn lines(scripts: &[Script]) -> Vec<u8> {
+/// The output of all items, one after the other.
+pub fn lines(items: &[Item]) -> Vec<u8> {
+    lines_reading(items, Reading::Right)
+}
+
+/// The same where the rules are taken in another way.
+pub fn lines_reading(items: &[Item], reading: Reading) -> Vec<u8> {
     let mut out = Vec::new();
-    for script in scripts {
-        run(script, &mut out);
+    for item in items {
+        item_lines(item, reading, &mut out);
     }
     out
 }
 
-fn run(script: &Script, out: &mut Vec<u8>) {
-    let mut chip = powered(script, out);
+fn item_lines(item: &Item, reading: Reading, out: &mut Vec<u8>) {
+    match item {
+        Item::PowerOn(script) => run(powered(script, reading, out), &script.events, out),
+        Item::State(script) => run(script.chip(reading), &script.events, out),
+        Item::Random(batches) => out.extend(batches.lines(reading).bytes()),
+    }
+}
+
+/// Power-on; if that is refused, all runs on from zero bytes.
+fn powered(script: &Script, reading: Reading, out: &mut Vec<u8>) -> Chip {
+    Chip::power_on_reading(&script.start_bytes, reading).unwrap_or_else(|number| {
+        refusal_line(number, out);
+        Chip::of_zeros(reading)
+    })
+}
+
+fn run(mut chip: Chip, events: &[Event], out: &mut Vec<u8>) {
     let mut shown = false;
-    for event in &script.events {
-        let result = chip.step(event.kind, event.byte, event.count);
+    for event in events {
+        let result = chip.step_any(event.kind, event.byte, event.count);
         match result {
             Ok(answer) => answer_line(answer, &chip, out),
             Err(number) => refusal_line(number, out),
         }
         shown = result.is_ok() && matches!(event.kind, Event::STOP | Event::POWER_LOSS);
         if shown {
-            register_line(&chip, out);
+            state_line(&chip, out);
         }
     }
     if !shown {
-        register_line(&chip, out);
+        state_line(&chip, out);
     }
-}
-
-/// Power-on; if that is refused, all runs on from zero bytes.
-fn powered(script: &Script, out: &mut Vec<u8>) -> Chip {
-    Chip::power_on(&script.start_bytes).unwrap_or_else(|number| {
-        refusal_line(number, out);
-        Chip::power_on(&[0; START_BYTES]).expect("zero bytes are fine")
-    })
 }
 
 fn answer_line(answer: Answer, chip: &Chip, out: &mut Vec<u8>) {
@@ -48,8 +60,8 @@ fn refusal_line(number: u8, out: &mut Vec<u8>) {
     out.extend(format!("refused {number}\n").bytes());
 }
 
-fn register_line(chip: &Chip, out: &mut Vec<u8>) {
-    for byte in chip.registers() {
+fn state_line(chip: &Chip, out: &mut Vec<u8>) {
+    for byte in chip.to_form() {
         out.extend(Answer::Byte(byte).text());
     }
     out.push(b'\n');

@@ -1,4 +1,4 @@
-//! What the two programs have in common: words in, bytes or a complaint out.
+//! What the programs have in common: words in, bytes or a complaint out.
 
 use std::io::{Result, Write};
 use std::process::ExitCode;

@@ -42,17 +42,6 @@ fn files_args_and_lines_fit() {
 }
 
 #[test]
-fn random_files_are_written_with_their_words() {
-    let folder = folder("random");
-    let (data, words) = (folder.join("data"), folder.join("args"));
-    let args = script(&["random", "4", "30", as_word(&data)]);
-    fs::write(&words, &args).expect("words are written");
-    let lines = script(&["lines", as_word(&data), as_word(&words)]);
-    assert!(lines.starts_with(b"0000 "));
-    assert_eq!(fs::read_dir(&data).expect("a folder").count(), 30);
-}
-
-#[test]
 fn an_example_can_be_answered() {
     let file = folder("example").join("read.script");
     fs::write(&file, script(&["example", "read"])).expect("a file is written");

@@ -1,8 +1,7 @@
 //! The nine marked cases.
 
 use super::host::Host;
-use crate::length_of_second;
-use crate::registers::{COUNTDOWN, CTR1, CTR2, INTDE, INTDF};
+use crate::registers::{COUNTDOWN, CTR1, CTR2, INTDE, INTDF, SECONDS, TRIM};
 
 fn after_one_second(time: [u8; 7]) -> [u8; 7] {
     let mut host = Host::at(time);
@@ -32,6 +31,17 @@ fn case_3_half_day_hours() {
     }
 }
 
+/// A chip with this trim leaves these seconds with the last of so many pulses.
+fn assert_length(f: u8, seconds: u8, length: u32) {
+    let mut host = Host::open();
+    host.write(TRIM, &[f]);
+    host.write(SECONDS, &[seconds]);
+    host.pulses(length - 1);
+    assert_eq!(host.reg(SECONDS), seconds, "{f:02X}h at {seconds:02X}h");
+    host.pulses(1);
+    assert_eq!(host.reg(SECONDS), seconds + 1, "{f:02X}h at {seconds:02X}h");
+}
+
 #[test]
 fn case_4_trim_at_second_zero() {
     for (f, length) in [
@@ -41,8 +51,8 @@ fn case_4_trim_at_second_zero() {
         (0x7E, 32_764),
         (0x7F, 32_766),
     ] {
-        assert_eq!(length_of_second(0x00, f), length);
-        assert_eq!(length_of_second(0x01, f), 32_768);
+        assert_length(f, 0x00, length);
+        assert_length(f, 0x01, 32_768);
     }
 }
 
@@ -54,7 +64,7 @@ fn case_5_trim_examples() {
         (0x40, 32_768),
         (0x41, 32_768),
     ] {
-        assert_eq!(length_of_second(0x00, f), length);
+        assert_length(f, 0x00, length);
     }
 }
 

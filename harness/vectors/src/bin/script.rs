@@ -1,5 +1,6 @@
 //! Writes script files, and the output that programs owe for them.
 
+use reference::Reading;
 use std::fs;
 use std::io::{Error, Result};
 use std::path::Path;
@@ -7,12 +8,11 @@ use std::process::ExitCode;
 use vectors::file::cases::stored_cases;
 use vectors::file::example::example;
 use vectors::file::owed::{answer, owed, owed_for_run};
-use vectors::file::random::random_cases;
 use vectors::file::{runs, words, Case};
 use vectors::program::{run, Output};
 
 const USAGE: &str = "usage: script files DIR | args | lines [DIR ARGS] | answer FILE
-       script example read | example boot | random SEED COUNT DIR";
+       script example read | example boot";
 
 fn main() -> ExitCode {
     run("script", USAGE, output_for)
@@ -26,10 +26,6 @@ fn output_for(arguments: &[&str]) -> Output {
         ["lines", folder, words] => lines_of_folder(folder, words),
         ["answer", file] => fs::read(file).map(|bytes| answer(&bytes)),
         ["example", name] => Ok(example(name)?),
-        ["random", seed, count, folder] => {
-            let cases = random_cases(seed.parse().ok()?, count.parse().ok()?);
-            write_files(&cases, folder).map(|()| words(&cases).into_bytes())
-        }
         _ => return None,
     })
 }
@@ -48,7 +44,7 @@ fn lines_of_folder(folder: &str, words: &str) -> Result<Vec<u8>> {
     let mut out = Vec::new();
     for (name, room) in runs {
         let file = fs::read(Path::new(folder).join(name))?;
-        out.extend(owed_for_run(name, &file, room));
+        out.extend(owed_for_run(name, &file, room, Reading::Right));
     }
     Ok(out)
 }

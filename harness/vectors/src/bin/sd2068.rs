@@ -3,11 +3,10 @@
 use std::process::ExitCode;
 use vectors::lines::lines;
 use vectors::program::{run, Output};
-use vectors::random::random_scripts;
-use vectors::scenarios::all_scripts;
+use vectors::scenarios::stored_items;
 use vectors::script::{decode, encode};
 
-const USAGE: &str = "usage: sd2068 events | lines [FILE] | random SEED COUNT";
+const USAGE: &str = "usage: sd2068 events | lines [FILE]";
 
 fn main() -> ExitCode {
     run("sd2068", USAGE, output_for)
@@ -15,13 +14,9 @@ fn main() -> ExitCode {
 
 fn output_for(words: &[&str]) -> Output {
     Some(match words {
-        ["events"] => Ok(encode(&all_scripts())),
-        ["lines"] => Ok(lines(&all_scripts())),
+        ["events"] => Ok(encode(&stored_items())),
+        ["lines"] => Ok(lines(&stored_items())),
         ["lines", file] => std::fs::read(file).map(|bytes| lines(&decode(&bytes))),
-        ["random", seed, count] => {
-            let scripts = random_scripts(seed.parse().ok()?, count.parse().ok()?);
-            Ok(encode(&scripts))
-        }
         _ => return None,
     })
 }

@@ -1,11 +1,9 @@
 //! Script files as test cases, and the output owed for them.
 
 pub mod cases;
-mod damage;
 pub mod example;
 pub mod owed;
 pub mod placed;
-pub mod random;
 #[cfg(test)]
 mod tests;
 

@@ -1,13 +1,12 @@
-//! Tests of the stored cases, the random ones, the examples and the output.
+//! Tests of the stored cases, the examples and the output.
 
 use super::cases::stored_cases;
 use super::example::example;
 use super::owed::{answer, owed, owed_for_run};
 use super::placed::Placed;
-use super::random::random_cases;
 use super::{runs, words, Case, LARGEST_ROOM};
 use crate::script::Script;
-use reference::run_file;
+use reference::{run_file, Reading};
 use std::collections::{HashMap, HashSet};
 
 /// The refusal numbers of all runs, and how often each comes up.
@@ -69,7 +68,7 @@ fn words_ask_for_every_run_in_order() {
         .collect();
     let mut out = Vec::new();
     for (name, room) in runs(&words).expect("pairs") {
-        out.extend(owed_for_run(name, files[name], room));
+        out.extend(owed_for_run(name, files[name], room, Reading::Right));
     }
     assert_eq!(out, owed(&cases));
     assert_eq!(words.lines().count(), words.split_whitespace().count());
@@ -123,7 +122,7 @@ fn pairs_give_the_refusal_they_name() {
 fn a_run_is_shown_with_what_stands_behind_it() {
     let file = Placed::start_first(&Script::from_bytes([0; 19]).start()).finish();
     let zeros = format!("{}01{}", "00".repeat(15), "00".repeat(16));
-    let shown = |room| text(owed_for_run("x", &file, room));
+    let shown = |room| text(owed_for_run("x", &file, room, Reading::Right));
     let good = "refusal 0 index 0 count 1";
     assert_eq!(shown(5), format!("x 5\n{good}\n{zeros}\n-- H\n........\n"));
     assert_eq!(shown(6), format!("x 6\n{good}\n{zeros}\n-- H\n.........\n"));
@@ -159,30 +158,4 @@ fn the_example_boot_reads_the_evening_back() {
     assert!(lines.ends_with(read));
     assert!(lines.lines().count() < 60);
     assert!(!lines.contains("NK"));
-}
-
-#[test]
-fn random_files_hold_every_refusal_and_good_ones() {
-    for seed in 1..=5 {
-        let found = refusals(&random_cases(seed, 300));
-        println!("{found:?}");
-        assert!((2..=8).all(|number| found[&number] >= 2));
-        assert!((130..=180).contains(&found[&0]));
-    }
-}
-
-#[test]
-fn random_files_come_from_the_seed() {
-    assert_eq!(random_cases(1, 50), random_cases(1, 50));
-    assert_ne!(random_cases(1, 50), random_cases(2, 50));
-}
-
-#[test]
-fn random_files_keep_their_bounds() {
-    let cases = random_cases(7, 1_000);
-    let length = |length: usize| cases.iter().any(|case| case.file.len() == length);
-    assert!(length(16_384) && length(16_385));
-    assert!(cases.iter().all(|case| case.file.len() < 17_000));
-    assert!(cases.iter().all(|case| case.rooms[0] <= LARGEST_ROOM));
-    assert_eq!(cases[999].name, "0999");
 }

@@ -11,13 +11,13 @@ const PULSE: u8 = BY_ALARM | ALARM_ON | PULSE_MODE;
 
 pub fn scripts() -> Vec<Script> {
     vec![
-        seconds_only(),
-        day_weekday_and_hour(),
-        all_fields_at_the_end_of_century(),
-        switched_off(),
-        enable_clears_the_flag(),
-        pulse_mode(),
-        each_matching_second(),
+        seconds_only().named("alarm: seconds only"),
+        day_weekday_and_hour().named("alarm: day weekday and hour"),
+        all_fields_at_the_end_of_century().named("alarm: all fields at the end of century"),
+        switched_off().named("alarm: switched off"),
+        enable_clears_the_flag().named("alarm: enable clears the flag"),
+        pulse_mode().named("alarm: pulse mode"),
+        each_matching_second().named("alarm: each matching second"),
     ]
 }
 

@@ -5,19 +5,19 @@ use crate::script::Script;
 
 pub fn scripts() -> Vec<Script> {
     vec![
-        pointer_over_repeated_starts(),
-        age_runs_on(),
-        time_out(),
-        time_out_while_writing(),
-        latch_while_time_moves(),
-        latch_at_the_address(),
-        wrap_while_reading(),
-        nak_makes_deaf(),
-        refused_addresses(),
-        refused_pointers(),
-        other_phases(),
-        flags_reset(),
-        reset_of_a_later_flag(),
+        pointer_over_repeated_starts().named("bus: pointer over repeated starts"),
+        age_runs_on().named("bus: age runs on"),
+        time_out().named("bus: time out"),
+        time_out_while_writing().named("bus: time out while writing"),
+        latch_while_time_moves().named("bus: latch while time moves"),
+        latch_at_the_address().named("bus: latch at the address"),
+        wrap_while_reading().named("bus: wrap while reading"),
+        nak_makes_deaf().named("bus: nak makes deaf"),
+        refused_addresses().named("bus: refused addresses"),
+        refused_pointers().named("bus: refused pointers"),
+        other_phases().named("bus: other phases"),
+        flags_reset().named("bus: flags reset"),
+        reset_of_a_later_flag().named("bus: reset of a later flag"),
     ]
 }
 
@@ -104,7 +104,7 @@ fn latch_at_the_address() -> Script {
         .read(1)
 }
 
-/// The time is taken at the read of 1Fh, not at the read of 00h after it.
+/// Reading 1Fh takes the time; reading 00h after it takes none.
 fn wrap_while_reading() -> Script {
     Script::at(NEW_CENTURY)
         .pulses(SECOND - 2)
@@ -172,8 +172,9 @@ fn running(controls: u8) -> Script {
 }
 
 /// At STOP and not before; not by reads beside 0Fh, not by FFh in its place,
-/// not after a time-out; but under the lock as well. 11h counts as it stands
-/// at STOP.
+/// not after a time-out; but under the lock as well. What 11h holds when STOP
+/// comes counts. The time-out comes one pulse after a zero, so that its own
+/// pulse raises no flag.
 fn flags_reset() -> Script {
     running(0)
         .pulses(8)
@@ -182,7 +183,7 @@ fn flags_reset() -> Script {
         .start()
         .write(&[0x00])
         .stop()
-        .pulses(16)
+        .pulses(17)
         .fetch(0x10, 1)
         .start()
         .write(&[0x64, 0x0F])

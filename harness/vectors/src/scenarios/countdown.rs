@@ -12,14 +12,15 @@ const OFF: u8 = BY_COUNTDOWN;
 
 pub fn scripts() -> Vec<Script> {
     vec![
-        short_sources(),
-        whole_seconds(),
-        whole_minutes(),
-        stopped_and_resumed(),
-        prescaler_cleared(),
-        pulse_mode(),
-        pulse_renewed_as_it_ends(),
-        pulse_renewed_too_late(),
+        short_sources().named("countdown: short sources"),
+        whole_seconds().named("countdown: whole seconds"),
+        whole_minutes().named("countdown: whole minutes"),
+        stopped_and_resumed().named("countdown: stopped and resumed"),
+        prescaler_cleared().named("countdown: prescaler cleared"),
+        source_changed().named("countdown: source changed"),
+        pulse_mode().named("countdown: pulse mode"),
+        pulse_renewed_as_it_ends().named("countdown: pulse renewed as it ends"),
+        pulse_renewed_too_late().named("countdown: pulse renewed too late"),
     ]
 }
 
@@ -68,9 +69,9 @@ fn whole_minutes() -> Script {
         .pulses_shown(1_966_080 - 524_288)
 }
 
-/// Off and on again it goes on from the same pulse and the same count; the
-/// level does not mind the switch. The seconds do not touch the prescaler, but
-/// 11h clears it, also while off.
+/// Off and on again it has lost neither a pulse nor the count; the level does
+/// not mind the switch. The seconds do not touch the prescaler, but 11h clears
+/// it, also while off.
 fn stopped_and_resumed() -> Script {
     countdown(LEVEL, 0, 2)
         .pulses(13)
@@ -103,6 +104,21 @@ fn prescaler_cleared() -> Script {
         .storing(0x13, &[0x00])
         .store(0x0F, &[CLEAR_FLAGS])
         .pulses(100)
+}
+
+/// Amid a tick, to a shorter source and to a longer one: the new tick has its
+/// whole length.
+fn source_changed() -> Script {
+    countdown(LEVEL, 1, 1)
+        .pulses(100)
+        .store(0x11, &[0x00])
+        .pulses(7)
+        .pulses(1)
+        .store(0x0F, &[CLEAR_FLAGS])
+        .pulses(13)
+        .store(0x11, &[0x10])
+        .pulses(511)
+        .pulses(1)
 }
 
 /// Cleared flag and switched-off countdown leave the pulse running.

@@ -8,5 +8,5 @@ pub fn scripts() -> Vec<Script> {
         .write(&[0x65])
         .read(2)
         .stop();
-    vec![example]
+    vec![example.named("the README's first example")]
 }

@@ -3,8 +3,16 @@
 use super::{BY_ALARM, BY_FREQUENCY, FREQUENCY_ON, NEW_CENTURY};
 use crate::script::Script;
 
+/// Bit 3 of 10h.
+const FOBAT: u8 = 0x08;
+
 pub fn scripts() -> Vec<Script> {
-    vec![every_choice(), one_hertz(), free_divider()]
+    vec![
+        every_choice().named("frequency: every choice"),
+        one_hertz().named("frequency: one hertz"),
+        free_divider().named("frequency: free divider"),
+        fobat_is_only_stored().named("frequency: FOBAT is only stored"),
+    ]
 }
 
 fn output(fs: u8) -> Script {
@@ -59,4 +67,15 @@ fn free_divider() -> Script {
         .pulses(191)
         .pulses(1)
         .storing(0x00, &[0x00])
+}
+
+/// Under FOBAT the pin follows the crystal, and is low and high by turns, as
+/// without it.
+fn fobat_is_only_stored() -> Script {
+    output(1)
+        .storing(0x10, &[BY_FREQUENCY | FREQUENCY_ON | FOBAT])
+        .storing(0x11, &[0x02])
+        .pulses(4)
+        .pulses(4)
+        .fetch(0x10, 1)
 }

@@ -5,12 +5,12 @@ use crate::script::Script;
 
 pub fn scripts() -> Vec<Script> {
     vec![
-        right_order(),
-        wrong_order_in_one_transfer(),
-        first_bit_missing(),
-        bit_by_bit(),
-        closed_with_a_flag_up(),
-        opened_and_closed_within_a_transfer(),
+        right_order().named("lock: right order"),
+        wrong_order_in_one_transfer().named("lock: wrong order in one transfer"),
+        first_bit_missing().named("lock: first bit missing"),
+        bit_by_bit().named("lock: bit by bit"),
+        closed_with_a_flag_up().named("lock: closed with a flag up"),
+        opened_and_closed_within_a_transfer().named("lock: opened and closed within a transfer"),
     ]
 }
 

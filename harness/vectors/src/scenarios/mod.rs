@@ -7,10 +7,15 @@ mod example;
 mod frequency;
 mod lock;
 mod power;
+#[cfg(test)]
+mod printed;
 mod refused;
+mod sheets;
+mod states;
 mod time;
 
-use crate::script::Script;
+use crate::chance::batch::{Batches, Kind};
+use crate::script::Item;
 
 /// Saturday, 2000-01-01, 00:00:00, 24-hour.
 const NEW_CENTURY: [u8; 7] = [0x00, 0x00, 0x80, 0x06, 0x01, 0x01, 0x00];
@@ -37,9 +42,14 @@ const KEEP_FLAGS: u8 = 0xB4;
 /// Bit 7 of 11h.
 const AUTO_RESET: u8 = 0x80;
 
-/// All stored scripts in their order.
-pub fn all_scripts() -> Vec<Script> {
-    [
+/// All stored items in their order.
+pub fn stored_items() -> Vec<Item> {
+    [stored_scripts(), stored_batches()].concat()
+}
+
+/// The scripts, from power-on and from states.
+pub fn stored_scripts() -> Vec<Item> {
+    let scripts = [
         example::scripts(),
         lock::scripts(),
         time::scripts(),
@@ -49,6 +59,21 @@ pub fn all_scripts() -> Vec<Script> {
         bus::scripts(),
         power::scripts(),
         refused::scripts(),
-    ]
-    .concat()
+    ];
+    let scripts = scripts.concat().into_iter().map(Item::from);
+    scripts
+        .chain(sheets::items())
+        .chain(states::items())
+        .collect()
+}
+
+/// The random files and steps, twenty thousand each.
+pub fn stored_batches() -> Vec<Item> {
+    let batches = [(Kind::Files, 1), (Kind::Steps, 2)].map(|(kind, x)| Batches {
+        kind,
+        x,
+        batches: 20,
+        size: 1_000,
+    });
+    batches.map(Item::from).to_vec()
 }

@@ -7,10 +7,10 @@ const TIME: [u8; 7] = [0x5A, 0x58, 0x31, 0x06, 0x28, 0x02, 0x24];
 
 pub fn scripts() -> Vec<Script> {
     vec![
-        within_a_read(),
-        within_a_write(),
-        after_settings(),
-        second_and_divider(),
+        within_a_read().named("power: within a read"),
+        within_a_write().named("power: within a write"),
+        after_settings().named("power: after settings"),
+        second_and_divider().named("power: second and divider"),
     ]
 }
 

@@ -4,10 +4,15 @@ use super::{BY_COUNTDOWN, COUNTDOWN_ON, NEW_CENTURY};
 use crate::script::Script;
 
 pub fn scripts() -> Vec<Script> {
-    let mut scripts = vec![events(), last_event_refused(), no_events(), odd_but_fine()];
-    scripts.extend((0..7).map(fixed_time_bit));
-    scripts.push(all_bits_set());
-    scripts.push(only_ram_full());
+    let mut scripts = vec![
+        events().named("refused: events"),
+        last_event_refused().named("refused: last event"),
+        no_events().named("refused: no events"),
+        odd_but_fine().named("refused: not an odd time"),
+    ];
+    scripts.extend((0..6).map(fixed_time_bit));
+    scripts.push(all_bits_set().named("refused: all bits set"));
+    scripts.push(only_ram_full().named("refused: not a full RAM"));
     scripts
 }
 
@@ -46,7 +51,7 @@ fn events() -> Script {
         .read(1)
 }
 
-/// The registers are shown after it all the same, and once.
+/// The state is shown after it all the same, and once.
 fn last_event_refused() -> Script {
     Script::at(NEW_CENTURY).start().event(1, 0, 1)
 }
@@ -60,12 +65,12 @@ fn odd_but_fine() -> Script {
     Script::at([0x7F, 0x7F, 0xBF, 0x07, 0x3F, 0x1F, 0xFF])
 }
 
-/// One fixed bit in this time byte; the year has none and is fine.
+/// One fixed bit in this time byte; the year's byte has none.
 fn fixed_time_bit(at: usize) -> Script {
-    const FIXED: [u8; 7] = [0x80, 0x80, 0x40, 0x08, 0x40, 0x20, 0x00];
+    const FIXED: [u8; 6] = [0x80, 0x80, 0x40, 0x08, 0x40, 0x20];
     let mut time = NEW_CENTURY;
     time[at] |= FIXED[at];
-    Script::at(time)
+    Script::at(time).named(&format!("refused: fixed bit of time byte {at}"))
 }
 
 fn all_bits_set() -> Script {

@@ -4,25 +4,39 @@ use super::{NEW_CENTURY, SECOND};
 use crate::script::Script;
 
 pub fn scripts() -> Vec<Script> {
-    let mut scripts = vec![set_in_both_modes(), trims(), seconds_written_again()];
-    scripts.extend(ROLL_OVERS.map(|time| Script::at(time).pulses(SECOND)));
+    let mut scripts = vec![
+        set_in_both_modes().named("time: set in both modes"),
+        trims().named("time: trims"),
+        seconds_written_again().named("time: seconds written again"),
+    ];
+    scripts.extend(ROLL_OVERS.map(roll_over));
     scripts
 }
 
+fn roll_over(time: [u8; 7]) -> Script {
+    let name = format!("time: one second after {time:02X?}");
+    Script::at(time).pulses(SECOND).named(&name)
+}
+
 /// Times that are worth one second more.
-const ROLL_OVERS: [[u8; 7]; 14] = [
+const ROLL_OVERS: [[u8; 7]; 19] = [
     // hours of both modes
     [0x59, 0x59, 0x11, 0x01, 0x10, 0x10, 0x10],
     [0x59, 0x59, 0x12, 0x01, 0x10, 0x10, 0x10],
     [0x59, 0x59, 0x32, 0x01, 0x10, 0x10, 0x10],
     [0x59, 0x59, 0x29, 0x01, 0x10, 0x10, 0x10],
     [0x59, 0x59, 0x99, 0x01, 0x10, 0x10, 0x10],
-    // the end of February
+    // the end of February, also where year and byte divide otherwise by 4
     [0x59, 0x59, 0xA3, 0x05, 0x28, 0x02, 0x00],
+    [0x59, 0x59, 0xA3, 0x06, 0x28, 0x02, 0x04],
+    [0x59, 0x59, 0xA3, 0x00, 0x29, 0x02, 0x04],
+    [0x59, 0x59, 0xA3, 0x02, 0x28, 0x02, 0x12],
+    [0x59, 0x59, 0xA3, 0x00, 0x28, 0x02, 0x10],
     [0x59, 0x59, 0xA3, 0x06, 0x28, 0x02, 0x30],
     // illegal hours, days, months and years
     [0x59, 0x59, 0x20, 0x07, 0x31, 0x04, 0x21],
     [0x59, 0x59, 0xA4, 0x03, 0x29, 0x02, 0x0C],
+    [0x59, 0x59, 0xA3, 0x03, 0x28, 0x02, 0x0C],
     [0x59, 0x7A, 0x00, 0x02, 0x30, 0x13, 0x99],
     [0x59, 0x60, 0xBF, 0x04, 0x31, 0x00, 0x99],
     // all illegal, with a carry and without one
@@ -45,7 +59,8 @@ fn set_in_both_modes() -> Script {
 }
 
 /// Longer, shorter and unchanged seconds, each to the very pulse; at the end
-/// the trim changes within a second, and the live one decides.
+/// the trim changes within a second, and the live one decides. What is over
+/// its length is dropped: the script ends one pulse before the next second.
 fn trims() -> Script {
     let one = |script: Script, (trim, seconds, length): (u8, u8, u32)| {
         script
@@ -71,6 +86,7 @@ fn trims() -> Script {
         .pulses(SECOND - 32_643)
         .store(0x12, &[0x42])
         .pulses(1)
+        .pulses(SECOND - 1)
 }
 
 /// Seconds restart the second; other bytes and locked ones do not. The trim

@@ -69,9 +69,12 @@ fn headless() -> Vec<Case> {
     ]
 }
 
+/// A way to place a script, by name.
+type Way = (&'static str, fn(&Script) -> Placed);
+
 /// Row 5 in several ways, each with each later fault.
 fn misplaced() -> Vec<Case> {
-    let ways: [(&str, fn(&Script) -> Placed); 6] = [
+    let ways: [Way; 6] = [
         ("count", |script| Placed::at(script, 8, 30).start_count(20)),
         ("end", |script| Placed::start_first(script).cut(1)),
         ("start-end", |script| Placed::events_first(script).cut(1)),

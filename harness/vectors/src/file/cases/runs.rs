@@ -1,12 +1,14 @@
 //! Runs that are worth a look at their lines and last states.
 
 use super::NEW_CENTURY;
+use crate::chance::draws::Draws;
+use crate::chance::files::{draw_file, pulse_count, Drawn};
 use crate::file::example::example_script;
+use crate::file::owed::run_lent;
 use crate::file::placed::Placed;
-use crate::file::random::good_script;
 use crate::file::Case;
-use crate::noise::Noise;
 use crate::script::Script;
+use reference::Reading;
 
 /// Bytes for 10h: lock bit, frequency or countdown on the pin and enabled.
 const FREQUENCY: u8 = 0xA1;
@@ -99,14 +101,16 @@ fn example_case(name: &str) -> Case {
     Case::new(&format!("example-{name}"), Placed::start_first(&script))
 }
 
-/// Good scripts by chance, without too many pulses.
+/// Good files by chance, in which time goes on for a second or two.
 fn deep_runs() -> Vec<Case> {
-    let mut noise = Noise::new(2_068);
-    let scripts = std::iter::repeat_with(|| good_script(&mut noise));
-    let short = scripts.filter(|script| script.pulse_count() <= 100_000);
-    let placed = short.take(8).map(|script| Placed::start_first(&script));
-    let named = placed.enumerate();
-    named
-        .map(|(n, placed)| Case::new(&format!("deep-{n}"), placed))
+    let mut draws = Draws::from(2_068);
+    let drawn = std::iter::repeat_with(|| draw_file(&mut draws));
+    let deep = drawn.filter(goes_deep).take(8).enumerate();
+    deep.map(|(n, drawn)| Case::of_bytes(&format!("deep-{n}"), drawn.file, &[drawn.room]))
         .collect()
+}
+
+fn goes_deep(drawn: &Drawn) -> bool {
+    let (run, _) = run_lent(&drawn.file, drawn.room, Reading::Right);
+    run.refusal == 0 && (32_768..=100_000).contains(&pulse_count(&drawn.file))
 }

@@ -1,8 +1,8 @@
--- One script less is left at each turn. Assumes nothing.
+-- One item less is left at each turn. Assumes nothing.
 use Prim.Native.Nat.{_≤_}
 use borrow.Author.Needs.{needs}
-use Rattle.sd2068_vectors.proofs.scripts.run_all.Statement.{statement}
-use Rattle.sd2068_vectors.proofs.scripts.run_all.Tie as tie
+use Rattle.sd2068_vectors.proofs.items.run_all.Statement.{statement}
+use Rattle.sd2068_vectors.proofs.items.run_all.Tie as tie
 
 abbrev Inv-loop : tie.InvT-loop
 Inv-loop left₀ left = left ≤ left₀

@@ -1,0 +1,47 @@
+-- The index stays within the bytes. Assumes nothing.
+use Prim.Native.Nat.{_-_, _≤_}
+use lib.ListN.{length}
+use borrow.Author.Needs.{needs}
+use Rattle.sd2068_vectors.proofs.digest.mix_bytes.Statement.{statement}
+use Rattle.sd2068_vectors.proofs.digest.mix_bytes.Tie as tie
+
+abbrev Inv-loop : tie.InvT-loop
+Inv-loop d bytes to₀ i₀ to i = i ≤ length bytes
+
+abbrev μ-loop : tie.MeasureT-loop
+μ-loop d bytes to₀ i₀ to i = length bytes - i
+
+loop-holds : tie.Need-loop-holds Inv-loop μ-loop
+loop-holds c = search needs
+
+shared-slice-read-mix-byte : tie.Need-shared-slice-read-mix-byte Inv-loop μ-loop
+shared-slice-read-mix-byte c = search needs
+
+mix-byte-requires : tie.Need-mix-byte-requires Inv-loop μ-loop
+mix-byte-requires c κs = tt
+
+add-i : tie.Need-add-i Inv-loop μ-loop
+add-i c = search needs
+
+loop-less : tie.Need-loop-less Inv-loop μ-loop
+loop-less c = search needs
+
+loop-again : tie.Need-loop-again Inv-loop μ-loop
+loop-again c = search needs
+
+returns : tie.Need-returns Inv-loop μ-loop
+returns c = tt
+
+pub mix-bytes-spec : {M : Type 1} → statement M
+mix-bytes-spec =
+    tie.close
+    (tie.spec
+    Inv-loop
+    μ-loop
+    loop-holds
+    shared-slice-read-mix-byte
+    mix-byte-requires
+    add-i
+    loop-less
+    loop-again
+    returns)

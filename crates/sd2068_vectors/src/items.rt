@@ -1,0 +1,80 @@
+// The items of the input: scripts from power-on or from a state, and batches of random files or steps.
+use crate::batches::run_batches;
+use crate::form::clock_of;
+use crate::form::long;
+use crate::lines::print_refusal;
+use crate::scripts::run_events;
+use crate::tables::SIZE;
+use libc::STDIN_FILENO;
+
+// The most items of one input.
+const MOST: u32 = 1000000;
+
+// Items until the input ends.
+pub fn run_all() {
+    let mut left = MOST;
+    while 0 < left {
+        if !run_next() {
+            return;
+        }
+        left = left - 1;
+    }
+}
+
+// The next item, if there is one.
+fn run_next() -> bool {
+    let mut first = [0u8; 1];
+    let got = io::read_full(STDIN_FILENO, &mut first);
+    if got < 1 {
+        return false;
+    }
+    let what = first[0];
+    match what {
+        0 => from_power_on(),
+        1 => from_state(),
+        2 => from_draws(true),
+        3 => from_draws(false),
+        _ => false,
+    }
+}
+
+// Power-on; if it is refused, the state is that of 19 zero bytes. (rule 8.4)
+fn from_power_on() -> bool {
+    let mut start = [0u8; 19];
+    let got = io::read_full(STDIN_FILENO, &mut start);
+    if got < 19 {
+        return false;
+    }
+    let started = sd2068::power_on(&start);
+    let refusal = started.refusal;
+    print_refusal(refusal);
+    run_events(started.clock);
+    true
+}
+
+// A state of any kind. (rule 8.2)
+fn from_state() -> bool {
+    let mut bytes = [0u8; 61];
+    let got = io::read_full(STDIN_FILENO, &mut bytes);
+    if got < 61 {
+        return false;
+    }
+    run_events(clock_of(bytes));
+    true
+}
+
+// Batches, with the tables that they are drawn from.
+fn from_draws(whole: bool) -> bool {
+    let mut b = [0u8; 12];
+    io::read_full(STDIN_FILENO, &mut b);
+    let mut tables = [0u8; SIZE];
+    let got = io::read_full(STDIN_FILENO, &mut tables);
+    if got < SIZE {
+        return false;
+    }
+    let x = long(b[0], b[1], b[2], b[3]);
+    let batches = long(b[4], b[5], b[6], b[7]);
+    let size = long(b[8], b[9], b[10], b[11]);
+    run_batches(&tables, whole, x, batches, size);
+    true
+}

@@ -1,0 +1,279 @@
+//! How deep random files lead, as seen from outside.
+//!
+//! Files that run are run once more, pulse by pulse, and what happened is told
+//! from the chip before and after each step.
+
+use super::draws::Draws;
+use super::files::{draw_file, pulse_count, sections};
+use crate::file::owed::run_lent;
+use crate::script::{decode_events, Event};
+use reference::registers::{
+    ALARM_ENABLE, COUNTDOWN, CTR1, CTR2, CTR3, DAY, HOURS, IM, INTAF, INTDF, MONTH, SECONDS, TRIM,
+    YEAR,
+};
+use reference::{length_of_second, tick_length, Answer, Chip, Phase, Pin, Reading, Stage};
+
+/// One event that is no pulses, or one pulse, with the chip around it.
+struct Step<'a> {
+    kind: u8,
+    answer: Answer,
+    before: &'a Chip,
+    after: &'a Chip,
+}
+
+impl Step<'_> {
+    fn is_pulse(&self) -> bool {
+        self.kind == Event::PULSES
+    }
+
+    fn is_read(&self) -> bool {
+        matches!(self.kind, Event::READ_ACK | Event::READ_NAK) && self.was_in(Stage::Reading)
+    }
+
+    fn is_data(&self) -> bool {
+        self.kind == Event::BYTE && self.was_in(Stage::Writing)
+    }
+
+    fn was_in(&self, wanted: Stage) -> bool {
+        matches!(self.before.phase, Phase::Open { stage, .. } if stage == wanted)
+    }
+
+    fn sets(&self, flag: u8) -> bool {
+        self.after.regs[CTR1] & flag & !self.before.regs[CTR1] != 0
+    }
+
+    fn clears(&self, flags: u8) -> bool {
+        self.before.regs[CTR1] & flags & !self.after.regs[CTR1] != 0
+    }
+
+    fn rings(&self) -> bool {
+        self.is_pulse() && self.after.alarm_pulse > self.before.alarm_pulse
+    }
+
+    fn rings_with(&self, bit: u8) -> bool {
+        self.rings() && self.before.regs[ALARM_ENABLE] >> bit & 1 != 0
+    }
+
+    fn ticks(&self, length: u32) -> bool {
+        self.goes_on(COUNTDOWN) && tick_length(self.before.regs[CTR3]) == length
+    }
+
+    /// The register changes by itself.
+    fn goes_on(&self, register: usize) -> bool {
+        self.is_pulse() && self.before.regs[register] != self.after.regs[register]
+    }
+
+    fn ends_second(&self) -> bool {
+        self.is_pulse() && self.after.second_counter == 0
+    }
+
+    /// What the second's length is before the step.
+    fn length(&self) -> u32 {
+        length_of_second(self.before.regs[SECONDS], self.before.regs[TRIM])
+    }
+
+    fn times_out(&self) -> bool {
+        self.is_pulse() && is_open(self.before) && !is_open(self.after)
+    }
+
+    /// A read of the time gives what is no longer the time.
+    fn reads_old_time(&self) -> bool {
+        let at = usize::from(self.before.pointer);
+        self.is_read() && at <= YEAR && self.answer != Answer::Byte(self.before.regs[at])
+    }
+
+    /// The wrap of a read takes another time than the one held.
+    fn latches_anew(&self) -> bool {
+        self.is_read() && self.before.latch != self.after.latch
+    }
+
+    fn lock_changes(&self, to_open: bool) -> bool {
+        self.before.lock_open() != to_open && self.after.lock_open() == to_open
+    }
+}
+
+fn is_open(chip: &Chip) -> bool {
+    chip.phase != Phase::Closed
+}
+
+/// Something that can happen in a step, by name.
+type Happening = (&'static str, fn(&Step) -> bool);
+
+const STEPS: [Happening; 32] = [
+    ("alarm flags set", |s| s.sets(INTAF)),
+    ("alarms with the flag set", |s| s.rings() && !s.sets(INTAF)),
+    ("alarms by second", |s| s.rings_with(0)),
+    ("alarms by minute", |s| s.rings_with(1)),
+    ("alarms by hour", |s| s.rings_with(2)),
+    ("alarms by weekday", |s| s.rings_with(3)),
+    ("alarms by day", |s| s.rings_with(4)),
+    ("alarms by month", |s| s.rings_with(5)),
+    ("alarms by year", |s| s.rings_with(6)),
+    ("countdown flags set", |s| s.sets(INTDF)),
+    ("ticks of 8", |s| s.ticks(8)),
+    ("ticks of 512", |s| s.ticks(512)),
+    ("ticks of 32768", |s| s.ticks(32_768)),
+    ("reloads", |s| {
+        s.goes_on(COUNTDOWN) && s.before.regs[COUNTDOWN] == 0
+    }),
+    ("flags cleared by a byte", |s| {
+        s.is_data() && s.clears(INTAF | INTDF)
+    }),
+    ("flags cleared at STOP", |s| {
+        s.kind == Event::STOP && s.clears(INTAF | INTDF)
+    }),
+    ("seconds ended", |s| s.ends_second()),
+    ("trimmed seconds ended", |s| {
+        s.ends_second() && s.length() != 32_768
+    }),
+    ("seconds ended beyond their length", |s| {
+        s.ends_second() && s.before.second_counter >= s.length()
+    }),
+    ("hours stepped by halves", |s| {
+        s.goes_on(HOURS) && s.after.regs[HOURS] & 0x80 == 0
+    }),
+    ("days stepped", |s| s.goes_on(DAY)),
+    ("months stepped", |s| s.goes_on(MONTH)),
+    ("years stepped", |s| s.goes_on(YEAR)),
+    ("leap days reached", |s| {
+        s.goes_on(DAY) && s.after.regs[DAY..=MONTH] == [0x29, 0x02]
+    }),
+    ("transfers timed out", |s| s.times_out()),
+    ("reads of an old time", |s| s.reads_old_time()),
+    ("wraps that latched anew", |s| s.latches_anew()),
+    ("bytes while open", |s| s.is_data() && s.before.lock_open()),
+    ("bytes while locked", |s| {
+        s.is_data() && !s.before.lock_open()
+    }),
+    ("locks opened", |s| s.lock_changes(true)),
+    ("locks closed", |s| s.lock_changes(false)),
+    ("power losses", |s| s.kind == Event::POWER_LOSS),
+];
+
+/// Something that a line can show, by name.
+type Showing = (&'static str, fn(&Chip) -> bool);
+
+const LINES: [Showing; 6] = [
+    ("lines L by the alarm's flag", |chip| low_by(chip, 1, 0)),
+    ("lines L by the alarm's pulse", |chip| low_by(chip, 1, IM)),
+    ("lines L by the countdown's flag", |chip| low_by(chip, 3, 0)),
+    ("lines L by the countdown's pulse", |chip| {
+        low_by(chip, 3, IM)
+    }),
+    ("lines L by the frequency", |chip| {
+        low_by(chip, 2, 0) || low_by(chip, 2, IM)
+    }),
+    ("lines X", |chip| chip.pin() == Pin::X),
+];
+
+/// The pin is low, with this source and this mode.
+fn low_by(chip: &Chip, source: u8, mode: u8) -> bool {
+    let ctr2 = chip.regs[CTR2];
+    chip.pin() == Pin::L && ctr2 >> 4 & 3 == source && ctr2 & IM == mode
+}
+
+/// How often each thing happened.
+#[derive(Clone, Debug, Default)]
+pub struct Depth {
+    /// Files by the number of their refusal; those at 0 ran.
+    refusals: [u64; 9],
+    pulses: u64,
+    ended_open: u64,
+    steps: [u64; STEPS.len()],
+    lines: [u64; LINES.len()],
+}
+
+/// So many files from this number on.
+pub fn depth(seed: u32, files: u32) -> Depth {
+    let mut draws = Draws::from(seed);
+    let mut depth = Depth::default();
+    for _ in 0..files {
+        let drawn = draw_file(&mut draws);
+        let (run, _) = run_lent(&drawn.file, drawn.room, Reading::Right);
+        depth.refusals[usize::from(run.refusal)] += 1;
+        if run.refusal == 0 {
+            depth.watch_file(&drawn.file);
+        }
+    }
+    depth
+}
+
+/// Watching.
+impl Depth {
+    pub(super) fn watch_file(&mut self, file: &[u8]) {
+        let (start_bytes, events) = sections(file);
+        let mut chip = Chip::power_on(start_bytes).expect("judged start bytes");
+        for event in decode_events(events) {
+            self.watch_event(&mut chip, event);
+            for (count, (_, shows)) in self.lines.iter_mut().zip(LINES) {
+                *count += u64::from(shows(&chip));
+            }
+        }
+        self.pulses += pulse_count(file);
+        self.ended_open += u64::from(chip.lock_open());
+    }
+
+    /// Pulses are taken one by one.
+    fn watch_event(&mut self, chip: &mut Chip, event: Event) {
+        let Event { kind, byte, count } = event;
+        let (times, count) = match count {
+            0 => (1, 0),
+            pulses => (pulses, 1),
+        };
+        for _ in 0..times {
+            let before = chip.clone();
+            let answer = chip.step(kind, byte, count).expect("a judged event");
+            if kind != Event::PULSES || is_seen(&before, chip) {
+                self.watch_step(&Step {
+                    kind,
+                    answer,
+                    before: &before,
+                    after: chip,
+                });
+            }
+        }
+    }
+
+    fn watch_step(&mut self, step: &Step) {
+        for (count, (_, happens)) in self.steps.iter_mut().zip(STEPS) {
+            *count += u64::from(happens(step));
+        }
+    }
+}
+
+/// Most pulses only count; the others change a register or the bus.
+fn is_seen(before: &Chip, after: &Chip) -> bool {
+    before.regs != after.regs || is_open(before) != is_open(after)
+}
+
+/// Showing.
+impl Depth {
+    /// Everything that was counted, with its name.
+    pub fn counts(&self) -> Vec<(String, u64)> {
+        let refused = |number: usize| format!("files refused with {number}");
+        let refusals = (1..).zip(&self.refusals[1..]);
+        let steps = STEPS.iter().map(|(name, _)| name).zip(&self.steps);
+        let lines = LINES.iter().map(|(name, _)| name).zip(&self.lines);
+        let mut counts = vec![
+            ("files that ran".to_string(), self.refusals[0]),
+            (
+                "files that ended with the lock open".to_string(),
+                self.ended_open,
+            ),
+            ("pulses".to_string(), self.pulses),
+        ];
+        counts.extend(refusals.map(|(number, count)| (refused(number), *count)));
+        let named = steps.chain(lines);
+        counts.extend(named.map(|(name, count)| (name.to_string(), *count)));
+        counts
+    }
+
+    /// A line for each count.
+    pub fn text(&self) -> String {
+        let counts = self.counts();
+        let lines = counts
+            .iter()
+            .map(|(name, count)| format!("{count} {name}\n"));
+        lines.collect()
+    }
+}

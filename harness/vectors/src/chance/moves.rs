@@ -1,0 +1,133 @@
+//! Moves: what a host does with the chip, as rows of events.
+
+use super::draws::Draws;
+use super::tables::{ANY_BYTE_ROW, MOVES};
+use crate::script::Event;
+use reference::EVENT_BYTES;
+
+/// No event of a built file ends behind this byte.
+const LAST_END: usize = 4_000;
+
+/// The rows of bytes as items, from the first one on.
+const FIRST_ROW: u8 = 0x20;
+const LAST_ROW: u8 = 0x37;
+
+/// An events section in the making.
+pub struct Events {
+    /// Where it begins in the file.
+    pub at: usize,
+    pub bytes: Vec<u8>,
+}
+
+impl Events {
+    pub fn at(at: usize) -> Events {
+        Events {
+            at,
+            bytes: Vec::new(),
+        }
+    }
+
+    pub fn count(&self) -> usize {
+        self.bytes.len() / EVENT_BYTES
+    }
+
+    /// Where the section ends in the file.
+    pub fn end(&self) -> usize {
+        self.at + self.bytes.len()
+    }
+
+    fn event(&mut self, kind: u8, byte: u8, count: u16) {
+        if self.end() + EVENT_BYTES <= LAST_END {
+            self.bytes.extend([kind, byte]);
+            self.bytes.extend(count.to_le_bytes());
+        }
+    }
+
+    fn plain(&mut self, kind: u8) {
+        self.event(kind, 0, 0);
+    }
+
+    fn master_byte(&mut self, byte: u8) {
+        self.event(Event::BYTE, byte, 0);
+    }
+
+    fn pulses(&mut self, count: u16) {
+        self.event(Event::PULSES, 0, count);
+    }
+}
+
+/// Moves and their items.
+impl Events {
+    /// The move with this number.
+    pub fn make_move(&mut self, draws: &mut Draws, number: usize) {
+        self.items(draws, &MOVES[number]);
+    }
+
+    pub fn items(&mut self, draws: &mut Draws, items: &[u8]) {
+        for item in items {
+            if *item == 0x0A {
+                if draws.below(4) == 0 {
+                    return;
+                }
+            } else {
+                self.item(draws, *item);
+            }
+        }
+    }
+
+    fn item(&mut self, draws: &mut Draws, item: u8) {
+        match item {
+            0x01 => self.plain(Event::START),
+            0x02 => self.plain(Event::STOP),
+            0x03 => self.likely_stop(draws),
+            0x04 => self.plain(Event::READ_ACK),
+            0x05 => self.plain(Event::READ_NAK),
+            0x06 => self.long_pulses(draws),
+            0x07 => self.short_pulses(draws),
+            0x08 => self.plain(Event::POWER_LOSS),
+            0x09 => self.reads(draws),
+            0x0B => self.out_of_place(draws),
+            FIRST_ROW..=LAST_ROW => self.row_byte(draws, usize::from(item - FIRST_ROW)),
+            0x40 => self.master_byte(0x64),
+            0x41 => self.master_byte(0x65),
+            0x42 => self.master_byte(0x80),
+            0x43 => self.master_byte(0x84),
+            0x80..=0x9F => self.master_byte(item - 0x80),
+            _ => {}
+        }
+    }
+
+    /// Some transfers are left open.
+    fn likely_stop(&mut self, draws: &mut Draws) {
+        if draws.below(4) != 0 {
+            self.plain(Event::STOP);
+        }
+    }
+
+    fn long_pulses(&mut self, draws: &mut Draws) {
+        self.pulses(draws.length());
+    }
+
+    fn short_pulses(&mut self, draws: &mut Draws) {
+        self.pulses(1 + draws.below(8) as u16);
+    }
+
+    fn reads(&mut self, draws: &mut Draws) {
+        for _ in 0..draws.below(8) {
+            self.plain(Event::READ_ACK);
+        }
+    }
+
+    fn row_byte(&mut self, draws: &mut Draws, row: usize) {
+        let byte = draws.byte_of(row);
+        self.master_byte(byte);
+    }
+
+    fn out_of_place(&mut self, draws: &mut Draws) {
+        match draws.below(7) as u8 {
+            Event::BYTE => self.row_byte(draws, ANY_BYTE_ROW),
+            Event::PULSES => self.short_pulses(draws),
+            kind => self.plain(kind),
+        }
+    }
+}

@@ -1,0 +1,135 @@
+//! What is counted, and that random files lead to what they were made for.
+
+use super::super::batch::{Batches, Kind};
+use super::super::depth::{depth, Depth};
+use crate::file::placed::Placed;
+use crate::script::Script;
+use reference::Reading;
+use std::collections::HashMap;
+
+fn by_name(depth: &Depth) -> HashMap<String, u64> {
+    depth.counts().into_iter().collect()
+}
+
+/// New year in the same pulse as a countdown's tick; the countdown runs out at
+/// once, its flag is read away, and it runs out again and again.
+#[test]
+fn a_known_script_is_counted() {
+    let script = Script::at([0x59, 0x59, 0xA3, 0x06, 0x31, 0x12, 0x99])
+        .unlock_with(&[0xB4, 0x80, 0x00, 0x01])
+        .pulses(8)
+        .fetch(0x0F, 1)
+        .pulses(32_760);
+    let mut depth = Depth::default();
+    depth.watch_file(&Placed::start_first(&script).finish());
+    let mut counts = by_name(&depth);
+    counts.retain(|_, count| *count > 0);
+    let expected = [
+        ("files that ended with the lock open", 1),
+        ("pulses", 32_768),
+        ("bytes while locked", 2),
+        ("bytes while open", 4),
+        ("locks opened", 1),
+        ("ticks of 8", 4_096),
+        ("reloads", 2_048),
+        ("countdown flags set", 2),
+        ("flags cleared at STOP", 1),
+        ("lines L by the countdown's flag", 8),
+        ("seconds ended", 1),
+        ("days stepped", 1),
+        ("months stepped", 1),
+        ("years stepped", 1),
+    ];
+    let expected = expected.map(|(name, count)| (name.to_string(), count));
+    assert_eq!(counts, HashMap::from(expected));
+}
+
+/// A transfer is left alone until the second is about to end. It ends behind
+/// the next 65h, and the read goes over the end.
+#[test]
+fn an_old_time_is_counted() {
+    let script = Script::at([0x58, 0x59, 0xA3, 0x06, 0x31, 0x12, 0x99])
+        .start()
+        .pulses(32_767)
+        .fetching(0x00)
+        .pulses(1)
+        .read_on(33)
+        .power_loss();
+    let mut depth = Depth::default();
+    depth.watch_file(&Placed::events_first(&script).finish());
+    let counts = by_name(&depth);
+    for name in [
+        "transfers timed out",
+        "reads of an old time",
+        "wraps that latched anew",
+        "power losses",
+    ] {
+        assert_eq!(counts[name], 1, "{name}");
+    }
+}
+
+/// The least that 4,000 files must show, about half of what they do.
+const LEAST: [(&str, u64); 35] = [
+    ("files that ran", 2_600),
+    ("files that ended with the lock open", 1_600),
+    ("files refused with 2", 12),
+    ("files refused with 3", 40),
+    ("files refused with 4", 25),
+    ("files refused with 5", 200),
+    ("files refused with 6", 4),
+    ("files refused with 7", 200),
+    ("files refused with 8", 8),
+    ("alarm flags set", 60),
+    ("alarms by second", 25),
+    ("alarms by minute", 10),
+    ("alarms by hour", 5),
+    ("alarms by weekday", 5),
+    ("alarms by day", 3),
+    ("alarms by month", 3),
+    ("alarms by year", 3),
+    ("countdown flags set", 300),
+    ("ticks of 512", 4_000),
+    ("ticks of 32768", 20),
+    ("flags cleared by a byte", 100),
+    ("flags cleared at STOP", 35),
+    ("trimmed seconds ended", 100),
+    ("seconds ended beyond their length", 12),
+    ("days stepped", 200),
+    ("months stepped", 120),
+    ("years stepped", 50),
+    ("leap days reached", 5),
+    ("transfers timed out", 400),
+    ("reads of an old time", 120),
+    ("wraps that latched anew", 35),
+    ("power losses", 150),
+    ("lines L by the alarm's pulse", 150),
+    ("lines L by the countdown's pulse", 1_200),
+    ("lines X", 400),
+];
+
+#[test]
+fn random_files_lead_deep() {
+    let counts = by_name(&depth(3, 4_000));
+    for (name, least) in LEAST {
+        let count = counts[name];
+        println!("{count} {name}");
+        assert!(count >= least, "{name}");
+    }
+}
+
+#[test]
+fn depth_and_batch_see_the_same_files() {
+    let counts = by_name(&depth(9, 300));
+    let batches = Batches {
+        kind: Kind::Files,
+        x: 9,
+        batches: 1,
+        size: 300,
+    };
+    let batch = &batches.run(Reading::Right)[0];
+    assert_eq!(counts["files that ran"], u64::from(batch.refusals[0]));
+    for (number, refused) in (1..).zip(&batch.refusals[1..]) {
+        let name = format!("files refused with {number}");
+        assert_eq!(counts[&name], u64::from(*refused), "{name}");
+    }
+}
