@@ -14,13 +14,16 @@ from concurrent.futures import ThreadPoolExecutor
 ROOT = os.path.dirname(os.path.dirname(os.path.abspath(__file__)))
 TARGET = os.path.join(ROOT, "harness", "target")
 RANDOM = os.path.join(TARGET, "release", "random")
+PROGRAM = [os.path.join(ROOT, "tools", "program"), "sd2068_vectors"]
 SIZE = 1000
 
 
-def built():
+def build():
+    """Both sides, each once, before anything is run beside anything else."""
     words = ["cargo", "build", "--quiet", "--release", "--offline"]
     words += ["--manifest-path", os.path.join(ROOT, "harness", "Cargo.toml")]
     subprocess.run(words, check=True, env=dict(os.environ, CARGO_TARGET_DIR=TARGET))
+    subprocess.run(PROGRAM, check=True, stdin=subprocess.DEVNULL)
 
 
 def owed(what, x, count, size):
@@ -33,8 +36,7 @@ def given(what, x, count, size):
     """The proved program's lines."""
     words = [RANDOM, "items", what, str(x), str(count), str(size)]
     items = subprocess.run(words, check=True, capture_output=True).stdout
-    program = os.path.join(ROOT, "tools", "program")
-    done = subprocess.run([program, "sd2068_vectors"], input=items, check=True, stdout=subprocess.PIPE)
+    done = subprocess.run(PROGRAM, input=items, check=True, stdout=subprocess.PIPE)
     return done.stdout.decode("ascii", "replace").splitlines()
 
 
@@ -93,14 +95,29 @@ def compared(what, seed, count):
     return 0
 
 
+def asked(words):
+    """What to draw, from where and how many, or nothing if the words make no sense."""
+    if len(words) != 3 or words[0] not in ("files", "steps") or not all(w.isdigit() for w in words[1:]):
+        return None
+    seed, count = int(words[1]), int(words[2])
+    whole = 0 < count <= SIZE or count % SIZE == 0
+    return (words[0], seed, count) if seed < 2**32 and 0 < count < 2**32 and whole else None
+
+
 def main(words):
-    whole = len(words) == 3 and words[0] in ("files", "steps") and all(w.isdigit() for w in words[1:])
-    if not whole or int(words[2]) == 0 or int(words[2]) % min(SIZE, int(words[2])) or int(words[1]) >= 2**32:
+    ask = asked(words)
+    if ask is None:
         print("usage: python3 tests/compare.py files|steps SEED COUNT", file=sys.stderr)
         print("SEED is below 4294967296, COUNT at most 1000 or a multiple of 1000", file=sys.stderr)
         return 2
-    built()
-    return compared(words[0], int(words[1]), int(words[2]))
+    try:
+        build()
+        return compared(*ask)
+    except FileNotFoundError as error:
+        print(f"compare: {error.filename} is missing", file=sys.stderr)
+    except subprocess.CalledProcessError as error:
+        print(f"compare: {error.cmd[0]} ended with status {error.returncode}", file=sys.stderr)
+    return 2
 
 
 if __name__ == "__main__":

@@ -71,7 +71,7 @@ fn put_time(tables: &[u8], file: &mut [u8], pen: Pen, at: usize) -> Pen
     let mut p = pen;
     for i in 0..7 {
         p = p.next();
-        put_byte(file, at + i as usize, kept(i, row_byte(tables, i, p.drawn)));
+        put_byte(file, at + i as usize, kept(i, row_byte(tables, i, p)));
     }
     p
 }

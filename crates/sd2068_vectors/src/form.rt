@@ -102,8 +102,8 @@ pub fn rest_of(c: Clock) -> [u8; 29] {
     ]
 }
 
-fn short(low: u8, high: u8) -> u32 {
-    low as u32 + high as u32 * 256
+pub fn word(low: u8, high: u8) -> u16 {
+    low as u16 + high as u16 * 256
 }
 
 pub fn long(a: u8, b: u8, c: u8, d: u8) -> u32 {
@@ -151,7 +151,7 @@ fn alarm_of(s: [u8; 61]) -> Alarm {
         at: time_of(s[7], s[8], s[9], s[10], s[11], s[12], s[13]),
         enable: s[0x0E],
         flag: bit(s[0x0F], 0x20),
-        pulse: short(s[45], s[46]),
+        pulse: word(s[45], s[46]) as u32,
     }
 }
 
@@ -161,7 +161,7 @@ fn countdown_of(s: [u8; 61]) -> Countdown {
         reload: s[39],
         prescaler: long(s[57], s[58], s[59], s[60]),
         flag: bit(s[0x0F], 0x10),
-        pulse: short(s[47], s[48]),
+        pulse: word(s[47], s[48]) as u32,
     }
 }
 
@@ -189,7 +189,7 @@ fn control_of(s: [u8; 61]) -> Control {
 
 fn bus_of(s: [u8; 61]) -> Bus {
     let transfer = Transfer {
-        age: short(s[43], s[44]),
+        age: word(s[43], s[44]) as u32,
         marked: s[42] != 0,
     };
     Bus {

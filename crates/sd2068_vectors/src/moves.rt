@@ -74,7 +74,7 @@ fn put_master(file: &mut [u8], pen: Pen, b: u8) -> Pen {
 
 fn put_row(tables: &[u8], file: &mut [u8], pen: Pen, row: u8) -> Pen {
     let p = pen.next();
-    put_master(file, p, row_byte(tables, row, p.drawn))
+    put_master(file, p, row_byte(tables, row, p))
 }
 
 // One transfer in four stays open.

@@ -41,6 +41,17 @@ impl Pen {
         (self.drawn / 16777216) as u8
     }
 
+    // One time in sixteen any byte at all.
+    pub fn mostly_below(self, n: u8) -> u8
+        requires { ⌜ 0 < n ⌝ }
+    {
+        if self.below(16) == 0 {
+            self.high_byte()
+        } else {
+            (self.drawn / 1048576 % n as u32 % 256) as u8
+        }
+    }
+
     // Where the events end.
     pub fn end(self) -> usize
         ensures { λ r. ⌜ r ≤ 4000 ⌝ }

@@ -1,12 +1,9 @@
 // A script: a count of events, and the events one after the other. (rule 8.1)
+use crate::form::word;
 use crate::lines::print_state;
 use crate::lines::print_step;
 use libc::STDIN_FILENO;
 use sd2068::Clock;
-
-fn word(low: u8, high: u8) -> u16 {
-    low as u16 + high as u16 * 256
-}
 
 // The state is shown after a STOP, after a power loss and at the end.
 pub fn run_events(start: Clock) {

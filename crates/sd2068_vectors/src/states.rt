@@ -22,7 +22,7 @@ fn put_held(tables: &[u8], state: &mut [u8], pen: Pen, loose: bool) -> Pen {
     let mut p = pen;
     for i in 0u8..39 {
         p = p.next();
-        let b = row_byte(tables, row_of(i % 32), p.drawn);
+        let b = row_byte(tables, row_of(i % 32), p);
         put_byte(state, i as usize, held(loose, i % 32, b));
     }
     p
@@ -55,20 +55,12 @@ fn put_reload(state: &mut [u8], p: Pen) -> Pen {
 
 // The pointer, the phase and the mark.
 fn put_bus(state: &mut [u8], p: Pen) -> Pen {
-    put_byte(state, 40, pointer(p));
+    put_byte(state, 40, p.mostly_below(32));
     let phase = p.next();
     put_byte(state, 41, phase.below(6) as u8);
     let mark = phase.next();
     put_byte(state, 42, mark.below(2) as u8);
     mark
-}
-
-fn pointer(p: Pen) -> u8 {
-    if p.below(16) == 0 {
-        p.high_byte()
-    } else {
-        (p.drawn / 1048576 % 32) as u8
-    }
 }
 
 // The age and the pin pulses; each turns up to one over its bound.

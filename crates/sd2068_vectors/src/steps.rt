@@ -25,7 +25,7 @@ pub fn with_step(tables: &[u8], tally: Tally) -> Tally {
 }
 
 fn with_event(tables: &[u8], tally: Tally, c: Clock, p: Pen) -> Tally {
-    let kind = kind(p);
+    let kind = p.mostly_below(7);
     let byte = byte_after(tables, kind, p.next());
     let count = count_after(tables, kind, byte.pen.next());
     let r = c.step(kind, (byte.value % 256) as u8, count.value);
@@ -44,19 +44,10 @@ fn mix_step(d: u32, r: Stepped) -> u32 {
     mix(mix_bytes(to_refusal, &text), pin.letter() as u32)
 }
 
-// One time in sixteen it may be one that there is not.
-fn kind(p: Pen) -> u8 {
-    if p.below(16) == 0 {
-        p.high_byte()
-    } else {
-        (p.drawn / 1048576 % 7) as u8
-    }
-}
-
 fn byte_after(tables: &[u8], kind: u8, p: Pen) -> Field {
     if kind == 2 {
         return Field {
-            value: row_byte(tables, 21, p.drawn) as u16,
+            value: row_byte(tables, 21, p) as u16,
             pen: p,
         };
     }

@@ -1,5 +1,7 @@
 // What is drawn from: rows of bytes, moves, lengths and edges, as the input hands them in.
 use crate::form::long;
+use crate::form::word;
+use crate::pen::Pen;
 
 // 24 rows of 16 bytes, 32 moves of 16 items, 16 lengths of two bytes, 16 edges of four.
 pub const SIZE: usize = 992;
@@ -16,11 +18,11 @@ pub fn byte_in(bytes: &[u8], i: usize) -> u8 {
 }
 
 // One draw in eight gives its own high byte, and the others one of the row's.
-pub fn row_byte(tables: &[u8], row: u8, x: u32) -> u8 {
-    if x / 65536 % 8 == 0 {
-        (x / 16777216) as u8
+pub fn row_byte(tables: &[u8], row: u8, p: Pen) -> u8 {
+    if p.below(8) == 0 {
+        p.high_byte()
     } else {
-        byte_in(tables, row as usize * 16 + (x / 524288 % 16) as usize)
+        byte_in(tables, row as usize * 16 + (p.drawn / 524288 % 16) as usize)
     }
 }
 
@@ -30,7 +32,7 @@ pub fn item_at(tables: &[u8], number: u32, i: u8) -> u8 {
 
 pub fn length_at(tables: &[u8], i: u32) -> u16 {
     let low = LENGTHS + i as usize * 2;
-    byte_in(tables, low) as u16 + byte_in(tables, low + 1) as u16 * 256
+    word(byte_in(tables, low), byte_in(tables, low + 1))
 }
 
 pub fn edge_at(tables: &[u8], i: u32) -> u32 {
