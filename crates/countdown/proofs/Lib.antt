@@ -1,2 +1,3 @@
 pub mod WellLaws
+pub mod DriftLaws
 pub mod Settled

@@ -38,7 +38,7 @@ abbrev Most : ℕ → Type 0
 Most n = n ≤ 1966080
 
 -- the longest tick
-limit-most : (tds : ℕ) → limitOf tds ≤ 1966080
+pub limit-most : (tds : ℕ) → limitOf tds ≤ 1966080
 limit-most tds =
     picked Most (eqb tds 0) (omega arith) (picked Most (eqb tds 1) (omega arith) (picked Most (eqb tds 2) (omega arith) (omega arith)))
 

@@ -2,7 +2,8 @@
 use mathlib.Core.Bool.{Bool, cond, _&&_, _||_}
 use Prim.Native.Nat.{ℕ, _-_, _/_, _%_}
 use lib.Dec.{eqb, leb}
-use Rattle.registers.specs.Counters.{reachedOf, turnedOf, lessOf}
+use Rattle.registers.specs.Counters as counters
+use Rattle.registers.specs.Counters.{reachedOf, turnedOf, lessOf, moreOf}
 use Rattle.countdown.specs.declared.Countdown.{Countdown}
 
 -- the pulses of a tick, by TDS
@@ -38,6 +39,21 @@ lessenedOf c n =
       count = c .count;
       reload = c .reload;
       prescaler = c .prescaler;
+      flag = c .flag;
+      pulse = lessOf (c .pulse) n;
+    }
+
+-- of the next n pulses, as many as come before a tick
+abbrev pub withinOf : Countdown → Bool → ℕ → ℕ → ℕ
+withinOf c on tds n = cond on (counters.withinOf (c .prescaler) (limitOf tds) n) n
+
+-- n pulses that make no tick
+abbrev pub driftedOf : Countdown → Bool → ℕ → Countdown
+driftedOf c on n =
+    record {
+      count = c .count;
+      reload = c .reload;
+      prescaler = cond on (moreOf (c .prescaler) n) (c .prescaler);
       flag = c .flag;
       pulse = lessOf (c .pulse) n;
     }

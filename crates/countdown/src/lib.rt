@@ -2,10 +2,12 @@
 use fields::pick;
 use registers::choose;
 use registers::less;
+use registers::more;
 use registers::reached;
 use registers::turned;
+use registers::within;
 ghost use mathlib.Core.Path.{_≡_};
-ghost use Rattle.countdown.specs.Countdown.{limitOf, downOf, countedOf, lessenedOf, storedOf, wellOf};
+ghost use Rattle.countdown.specs.Countdown.{limitOf, downOf, countedOf, lessenedOf, withinOf, driftedOf, storedOf, wellOf};
 
 pub struct Countdown {
     pub count: u8,
@@ -38,6 +40,21 @@ impl Countdown {
     {
         self.pulse = less(self.pulse, n);
         self
+    }
+
+    // Of the next n pulses, as many as come before a tick, by INTDE and TDS. (rule 5.7)
+    pub fn within(self, on: bool, tds: u8, n: u32) -> u32
+        ensures { λ r. ⌜ r ≡ withinOf self on tds n ⌝ }
+    {
+        choose(on, within(self.prescaler, limit(tds), n), n)
+    }
+
+    // n pulses that make no tick, by INTDE. (rules 5.6 and 5.7)
+    pub fn drifted(mut self, on: bool, n: u32) -> Countdown
+        ensures { λ r. ⌜ r ≡ driftedOf self on n ⌝ }
+    {
+        self.prescaler = choose(on, more(self.prescaler, n), self.prescaler);
+        self.lessened(n)
     }
 
     // A byte stored at register a. (rules 2.7 and 2.8)

@@ -3,4 +3,5 @@ pub mod SecondLaws
 pub mod SpanLaws
 pub mod StoredLaws
 pub mod WellLaws
+pub mod DriftLaws
 pub mod Settled

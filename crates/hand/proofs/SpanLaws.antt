@@ -36,6 +36,10 @@ trimmed-span = agree (λ (f : ℕ). natAbs (pos 32768 +ℤ changeOf f)) trimmedS
 trimmed-least : (f : ℕ) → f < 128 → 32644 ≤ trimmedSpan f
 trimmed-least f h = leb→le _ _ (each (λ (k : ℕ). leb 32644 (trimmedSpan k)) 128 tt f h)
 
+-- and the longest
+trimmed-most : (f : ℕ) → f < 128 → trimmedSpan f ≤ 32892
+trimmed-most f h = leb→le _ _ (each (λ (k : ℕ). leb (trimmedSpan k) 32892) 128 tt f h)
+
 -- bytes of two digits are the same if their values are
 same-value : (a s : ℕ) → a % 16 < 10 → s % 16 < 10 → eqb s a ≡ eqb (valueOf s) (valueOf a)
 same-value a s p q =
@@ -65,6 +69,12 @@ pub length-least : (seconds trim : ℕ) → 32644 ≤ lengthOf seconds trim
 unfolding lengthOf
 length-least seconds trim =
     picked (λ (n : ℕ). 32644 ≤ n) (trimmedOf seconds) (rw (trimmed-span (trim % 128) (omega arith)) (trimmed-least (trim % 128) (omega arith))) (omega arith)
+
+-- and none has more than 32,892
+pub length-most : (seconds trim : ℕ) → lengthOf seconds trim ≤ 32892
+unfolding lengthOf
+length-most seconds trim =
+    picked (λ (n : ℕ). n ≤ 32892) (trimmedOf seconds) (rw (trimmed-span (trim % 128) (omega arith)) (trimmed-most (trim % 128) (omega arith))) (omega arith)
 
 -- a sum of seconds grows with their number
 span-more : (trim s m n : ℕ) → m ≤ n → spanOf trim s m ≤ spanOf trim s n
@@ -204,7 +214,7 @@ pub one-counted : {t u v : Time} {k trim p : ℕ} → Counted t k trim p u → C
 one-counted {t} {u} {v} {k} a b = one-later (subst (λ (n : ℕ). SecondsOn t k n u) (one-most (a .most) (b .most)) (a .later)) (b .later)
 
 -- a pulse that does not end the second only counts, and so do any number of them
-counts-by : (h : Hand) (ends : Bool) → endsOf h ≡ ends → h .counter + 1 < lengthOf (h .time .seconds) (h .trim) → tickedBy ends h ≡ record { time = h .time; counter = h .counter + 1; trim = h .trim }
+pub counts-by : (h : Hand) (ends : Bool) → endsOf h ≡ ends → h .counter + 1 < lengthOf (h .time .seconds) (h .trim) → tickedBy ends h ≡ record { time = h .time; counter = h .counter + 1; trim = h .trim }
 counts-by h true e small = absurd (omega (arith, leb-true (lengthOf (h .time .seconds) (h .trim)) (h .counter + 1) e))
 counts-by h false e small = refl
 

@@ -1,12 +1,10 @@
 -- A pulse and a stored byte keep the hand within its bounds. Assumes nothing.
 use mathlib.Core.Path.{_≡_, refl}
 use mathlib.Core.Bool.{Bool, true, false, _&&_}
-use Prim.Native.Nat.{ℕ, _+_, _%_, _≤_, _<_}
+use Prim.Native.Nat.{ℕ, _+_, _≤_}
 use native.Mathlib.Omega.{arith}
-use lib.Dec.{eqb, ltb, leb, leb→le}
-use lib.IntN.{pos, _+ℤ_, natAbs}
+use lib.Dec.{eqb, ltb, leb}
 use borrow.Author.Tests.{leb-true, leb-false, le-leb, eqb-true}
-use Rattle.fields.proofs.Below.{each}
 use Rattle.fields.proofs.FieldLaws.{and-left, and-right}
 use Rattle.fields.proofs.Picked.{picked}
 use Rattle.calendar.specs.declared.time.Time.{Time}
@@ -14,18 +12,10 @@ use Rattle.calendar.specs.Advance.{advanceOf}
 use Rattle.calendar.proofs.FixedLaws.{stays-clear}
 use Rattle.registers.specs.Fixed.{clearOf, clearTimeOf}
 use Rattle.registers.proofs.FixedLaws.{time-clear, clear-time, clear-held, stored-clear}
-use Rattle.hand.specs.Trim.{changeOf, trimmedOf, lengthOf}
+use Rattle.hand.specs.Trim.{lengthOf}
 use Rattle.hand.specs.Hand.{endsOf, tickedBy, tickedOf, storedOf, wellOf}
 use Rattle.hand.specs.declared.hand.Hand.{Hand}
-
--- the longest second
-trimmed-most : (f : ℕ) → f < 128 → natAbs (pos 32768 +ℤ changeOf f) ≤ 32892
-unfolding changeOf
-trimmed-most f h = leb→le _ _ (each (λ (k : ℕ). leb (natAbs (pos 32768 +ℤ changeOf k)) 32892) 128 tt f h)
-
-pub length-most : (seconds trim : ℕ) → lengthOf seconds trim ≤ 32892
-unfolding lengthOf
-length-most seconds trim = picked (λ (n : ℕ). n ≤ 32892) (trimmedOf seconds) (trimmed-most (trim % 128) (omega arith)) (omega arith)
+use Rattle.hand.proofs.SpanLaws.{length-most}
 
 -- the parts of a hand that is well formed
 pub record Well (h : Hand) : Type 0 where

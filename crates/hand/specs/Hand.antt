@@ -4,7 +4,8 @@ use Prim.Native.Nat.{ℕ, _+_}
 use lib.Dec.{eqb, ltb, leb}
 use Rattle.calendar.specs.declared.time.Time.{Time}
 use Rattle.calendar.specs.Advance.{advanceOf}
-use Rattle.registers.specs.Counters.{reachedOf}
+use Rattle.registers.specs.Counters as counters
+use Rattle.registers.specs.Counters.{reachedOf, moreOf}
 use Rattle.registers.specs.Fixed.{keptOf, clearOf, clearTimeOf}
 use Rattle.registers.specs.Seven.{withByteOf}
 use Rattle.hand.specs.Trim.{lengthOf}
@@ -24,6 +25,14 @@ tickedBy ends h = record { time = timeBy ends h; counter = cond ends 0 (h .count
 
 unfoldable pub tickedOf : Hand → Hand
 tickedOf h = tickedBy (endsOf h) h
+
+-- of the next n pulses, as many as come before the end of the second
+abbrev pub withinOf : Hand → ℕ → ℕ
+withinOf h n = counters.withinOf (h .counter) (lengthOf (h .time .seconds) (h .trim)) n
+
+-- n pulses that do not end the second
+abbrev pub driftedOf : Hand → ℕ → Hand
+driftedOf h n = record { time = h .time; counter = moreOf (h .counter) n; trim = h .trim }
 
 -- the counter after a byte stored at register a of the time: 00h begins the second anew
 abbrev pub restartedOf : ℕ → ℕ → ℕ

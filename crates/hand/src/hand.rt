@@ -4,11 +4,13 @@ use calendar::Time;
 use registers::clear;
 use registers::clear_time;
 use registers::kept;
+use registers::more;
 use registers::reached;
 use registers::turned;
 use registers::with_byte;
+use registers::within;
 ghost use mathlib.Core.Path.{_≡_};
-ghost use Rattle.hand.specs.Hand.{timeBy, tickedOf, restartedOf, storedOf, wellOf};
+ghost use Rattle.hand.specs.Hand.{timeBy, tickedOf, withinOf, driftedOf, restartedOf, storedOf, wellOf};
 
 pub struct Hand {
     pub time: Time,
@@ -35,6 +37,21 @@ impl Hand {
     {
         let time = self.time;
         if ends { time.advanced() } else { time }
+    }
+
+    // Of the next n pulses, as many as come before the end of the second. (rule 4.1)
+    pub fn within(self, n: u32) -> u32
+        ensures { λ r. ⌜ r ≡ withinOf self n ⌝ }
+    {
+        within(self.counter, length(self.time.seconds, self.trim), n)
+    }
+
+    // n pulses that do not end the second. (rule 4.1)
+    pub fn drifted(mut self, n: u32) -> Hand
+        ensures { λ r. ⌜ r ≡ driftedOf self n ⌝ }
+    {
+        self.counter = more(self.counter, n);
+        self
     }
 
     // A byte stored at register a. (rules 2.2 and 2.7)

@@ -4,21 +4,9 @@ use mathlib.Core.Bool.{Bool, true, false, cond, Bool·beq}
 use Prim.Native.Nat.{ℕ, _+_, _<_}
 use lib.Dec.{T, eqb, eqb→eq, lit<}
 use Rattle.fields.proofs.Below.{agree}
-use Rattle.fields.proofs.Bits.{each-bit}
-use Rattle.sd2068.proofs.ListedLaws.{ctr1}
+use Rattle.fields.proofs.Bits.{each-bit, same}
+use Rattle.sd2068.proofs.ListedLaws.{ctr1, ctr2}
 use Rattle.promises.specs.Registers.{bit, put}
-
--- two bits that are tested to be the same
-pub same : (a b : Bool) → T (Bool·beq a b) → a ≡ b
-same true true t = refl
-same true false t = absurd t
-same false true t = absurd t
-same false false t = refl
-
--- 10h, of its eight bits
-abbrev pub ctr2 : Bool → Bool → Bool → Bool → Bool → Bool → Bool → Bool → ℕ
-ctr2 a b c d e f g h =
-    cond a 0x80 0 + cond b 0x40 0 + cond c 0x20 0 + cond d 0x10 0 + cond e 0x08 0 + cond f 0x04 0 + cond g 0x02 0 + cond h 0x01 0
 
 module _ (a b c d e : Bool) where
   pub put-intaf : (x : Bool) → put 5 x (ctr1 a b c d e) ≡ ctr1 a x c d e

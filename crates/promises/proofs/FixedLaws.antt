@@ -6,10 +6,11 @@ use Prim.Native.Nat.{ℕ, _<_}
 use lib.Dec.{T, ltb, ltb→lt}
 use borrow.Author.Tests.{eq-eqb, eqb-true}
 use Rattle.fields.proofs.Below.{all, each}
+use Rattle.fields.proofs.Bits.{same}
 use Rattle.registers.specs.Fixed.{keptTime, keptAlarm, keptControl, keptOf, clearOf}
 use Rattle.promises.specs.Registers.{bit}
 use Rattle.promises.specs.Fixed.{fixed}
-use Rattle.promises.proofs.BitLaws.{same, same-bits}
+use Rattle.promises.proofs.BitLaws.{same-bits}
 
 -- a test of every register and byte
 every : (f : ℕ → ℕ → Bool) → T (all (λ (a : ℕ). all (f a) 256) 32) → (a b : ℕ) → a < 32 → b < 256 → T (f a b)

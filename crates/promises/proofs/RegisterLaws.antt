@@ -12,9 +12,8 @@ use Rattle.sd2068.specs.Controls.{intsOf}
 use Rattle.sd2068.specs.Reading.{controlAtOf, registerOf}
 use Rattle.sd2068.proofs.ListedLaws.{none, _also_}
 use Rattle.promises.specs.Registers.{bit}
-use Rattle.fields.proofs.Bits.{Test, allOf, each-bit}
-use Rattle.sd2068.proofs.ListedLaws.{ctr1}
-use Rattle.promises.proofs.BitLaws.{same, ctr2}
+use Rattle.fields.proofs.Bits.{Test, allOf, each-bit, same}
+use Rattle.sd2068.proofs.ListedLaws.{ctr1, ctr2}
 
 -- what holds at k and at every other number holds at each
 aside-by : (P : ℕ → Type 0) (k a : ℕ) (here : Bool) → eqb a k ≡ here → P k → (eqb a k ≡ false → P a) → P a

@@ -21,10 +21,10 @@ use Rattle.control.specs.Lock.{ctr1Of, ctr2Of}
 use Rattle.sd2068.specs.declared.clock.Clock.{Clock}
 use Rattle.sd2068.specs.Reading.{controlAtOf, registerOf}
 use Rattle.sd2068.specs.Writing.{ramStoredOf}
-use Rattle.sd2068.proofs.ListedLaws.{none, _also_}
+use Rattle.sd2068.proofs.ListedLaws.{none, _also_, ctr2}
 use Rattle.promises.specs.Registers.{bit}
 use Rattle.promises.specs.Written.{storedAt}
-use Rattle.promises.proofs.BitLaws.{ctr2, put-intaf, put-flags, summed-same}
+use Rattle.promises.proofs.BitLaws.{put-intaf, put-flags, summed-same}
 use Rattle.promises.proofs.RegisterLaws.{by-rows, aside-two, intaf, intdf}
 
 -- seven bytes after one of them was replaced

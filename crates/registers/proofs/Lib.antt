@@ -1,2 +1,3 @@
 pub mod FixedLaws
+pub mod CounterLaws
 pub mod Settled

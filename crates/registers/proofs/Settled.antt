@@ -5,10 +5,14 @@ use Rattle.registers.proofs.counters.choose.Kinds as choose-kinds
 use Rattle.registers.proofs.counters.choose.Reads as choose-reads
 use Rattle.registers.proofs.counters.less.Kinds as less-kinds
 use Rattle.registers.proofs.counters.less.Reads as less-reads
+use Rattle.registers.proofs.counters.more.Kinds as more-kinds
+use Rattle.registers.proofs.counters.more.Reads as more-reads
 use Rattle.registers.proofs.counters.reached.Kinds as reached-kinds
 use Rattle.registers.proofs.counters.reached.Reads as reached-reads
 use Rattle.registers.proofs.counters.turned.Kinds as turned-kinds
 use Rattle.registers.proofs.counters.turned.Reads as turned-reads
+use Rattle.registers.proofs.counters.within.Kinds as within-kinds
+use Rattle.registers.proofs.counters.within.Reads as within-reads
 use Rattle.registers.proofs.fixed.clear.Kinds as clear-kinds
 use Rattle.registers.proofs.fixed.clear.Reads as clear-reads
 use Rattle.registers.proofs.fixed.clear_time.Kinds as clear-time-kinds
@@ -28,11 +32,17 @@ choose-settles κs a e f x y = settled (λ z. z) (λ z. z) (λ z. refl)
 pub less-settles : Settles 0 less-kinds.ps less-kinds.r less-reads.Post
 less-settles κs a e f x y = settled (λ z. z) (λ z. z) (λ z. refl)
 
+pub more-settles : Settles 0 more-kinds.ps more-kinds.r more-reads.Post
+more-settles κs a e f x y = settled (λ z. z) (λ z. z) (λ z. refl)
+
 pub reached-settles : Settles 0 reached-kinds.ps reached-kinds.r reached-reads.Post
 reached-settles κs a e f x y = settled (λ z. z) (λ z. z) (λ z. refl)
 
 pub turned-settles : Settles 0 turned-kinds.ps turned-kinds.r turned-reads.Post
 turned-settles κs a e f x y = settled (λ z. z) (λ z. z) (λ z. refl)
+
+pub within-settles : Settles 0 within-kinds.ps within-kinds.r within-reads.Post
+within-settles κs a e f x y = settled (λ z. z) (λ z. z) (λ z. refl)
 
 pub clear-settles : Settles 0 clear-kinds.ps clear-kinds.r clear-reads.Post
 clear-settles κs a e f x y = settled (λ z. z) (λ z. z) (λ z. refl)

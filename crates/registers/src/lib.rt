@@ -5,8 +5,10 @@ mod seven;
 
 pub use counters::choose;
 pub use counters::less;
+pub use counters::more;
 pub use counters::reached;
 pub use counters::turned;
+pub use counters::within;
 pub use fixed::clear;
 pub use fixed::clear_time;
 pub use fixed::kept;

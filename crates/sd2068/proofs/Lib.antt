@@ -1,4 +1,5 @@
 pub mod GroupLaws
+pub mod DriftLaws
 pub mod WellLaws
 pub mod ListedLaws
 pub mod RowLaws

@@ -42,7 +42,12 @@ _also_ {P} {n} f p = record { each = below-more P n (f .each) p }
 abbrev pub ctr1 : Bool → Bool → Bool → Bool → Bool → ℕ
 ctr1 a b c d e = cond a 0x80 0 + cond b 0x20 0 + cond c 0x10 0 + cond d 0x04 0 + cond e 0x01 0
 
-ctr1-clear : (a b c d e : Bool) → keptCtr1 (ctr1 a b c d e) ≡ ctr1 a b c d e
+-- 10h, of its eight bits
+abbrev pub ctr2 : Bool → Bool → Bool → Bool → Bool → Bool → Bool → Bool → ℕ
+ctr2 a b c d e f g h =
+    cond a 0x80 0 + cond b 0x40 0 + cond c 0x20 0 + cond d 0x10 0 + cond e 0x08 0 + cond f 0x04 0 + cond g 0x02 0 + cond h 0x01 0
+
+pub ctr1-clear : (a b c d e : Bool) → keptCtr1 (ctr1 a b c d e) ≡ ctr1 a b c d e
 ctr1-clear a b c d e = eqb→eq _ _ (each-bit 5 (λ a b c d e. eqb (keptCtr1 (ctr1 a b c d e)) (ctr1 a b c d e)) tt a b c d e)
 
 lock-listed : (one two three : Bool) → one || not (two || three) ≡ true → one ≡ false → (two ≡ false) × (three ≡ false)

@@ -1,8 +1,9 @@
--- One pulse: six stages, each on the state that the one before it left. (rules 4.5 to 4.7)
+-- One pulse: six stages, each on the state that the one before it left; and many. (rules 4.5 to 4.7)
 use mathlib.Core.Bool.{_&&_}
 use Prim.Native.Nat.{ℕ, _+_, _%_}
 use lib.Dec.{eqb}
 use Rattle.calendar.specs.Repeat.{times}
+use Rattle.hand.specs.Hand as hand
 use Rattle.hand.specs.Hand.{tickedOf}
 use Rattle.alarm.specs.Alarm as alarm
 use Rattle.countdown.specs.Countdown as countdown
@@ -44,3 +45,27 @@ pulseOf c = rungOf (advancedOf (countedOf (pinPulsedOf (dividedOf (agedOf c)))))
 -- n pulses
 abbrev pub pulsesOf : Clock → ℕ → Clock
 pulsesOf c n = times pulseOf n c
+
+-- the free divider n pulses on
+abbrev pub turnedByOf : ℕ → ℕ → ℕ
+turnedByOf divider n = (divider + n) % 524288
+
+-- of the next n pulses, as many as only count: they end no second and make no tick
+abbrev pub withinOf : Clock → ℕ → ℕ
+withinOf c n = countdown.withinOf (c .countdown) (c .control .intde) (tdsOf (c .control .ctr3)) (hand.withinOf (c .hand) n)
+
+-- n pulses that only count, at once
+unfoldable pub driftedOf : Clock → ℕ → Clock
+driftedOf c n =
+    record {
+      hand = hand.driftedOf (c .hand) n;
+      alarm = alarm.lessenedOf (c .alarm) n;
+      countdown = countdown.driftedOf (c .countdown) (c .control .intde) n;
+      lock = c .lock;
+      control = c .control;
+      rtcf = c .rtcf;
+      ram = c .ram;
+      latched = c .latched;
+      divider = turnedByOf (c .divider) n;
+      bus = olderOf (c .bus) n;
+    }

@@ -1,14 +1,14 @@
-// One pulse, stage by stage. (rules 4.5 to 4.7)
+// One pulse, stage by stage, and many. (rules 4.5 to 4.7)
 use crate::clock::Clock;
 use crate::controls::tds;
 ghost use mathlib.Core.Path.{_≡_};
-ghost use Rattle.sd2068.specs.Pulse.{agedOf, turnedOverOf, dividedOf, pinPulsedOf, countedOf, advancedOf, rungOf, pulseOf, pulsesOf};
+ghost use Rattle.sd2068.specs.Pulse.{agedOf, turnedByOf, dividedOf, pinPulsedOf, countedOf, advancedOf, rungOf, pulseOf, withinOf, driftedOf, pulsesOf};
 
-// The free divider wraps after 524,287. (rule 4.6)
-fn turned_over(divider: u32) -> u32
-    ensures { λ r. ⌜ r ≡ turnedOverOf divider ⌝ }
+// The free divider n pulses on: it wraps after 524,287. (rule 4.6)
+fn turned_by(divider: u32, n: u32) -> u32
+    ensures { λ r. ⌜ r ≡ turnedByOf divider n ⌝ }
 {
-    ((divider as u64 + 1) % 524288) as u32
+    ((divider as u64 + n as u64) % 524288) as u32
 }
 
 impl Clock {
@@ -24,7 +24,7 @@ impl Clock {
     fn divided(mut self) -> Clock
         ensures { λ r. ⌜ r ≡ dividedOf self ⌝ }
     {
-        self.divider = turned_over(self.divider);
+        self.divider = turned_by(self.divider, 1);
         self
     }
 
@@ -75,15 +75,37 @@ impl Clock {
             .rung()
     }
 
-    // n pulses. (rule 4.7)
+    // Of the next n pulses, as many as only count: they end no second and make no tick. (rules 4.1 and 5.7)
+    fn within(self, n: u32) -> u32
+        ensures { λ r. ⌜ r ≡ withinOf self n ⌝ }
+    {
+        let tds = tds(self.control.ctr3);
+        let second = self.hand.within(n);
+        self.countdown.within(self.control.intde, tds, second)
+    }
+
+    // n pulses that only count, at once. (rule 4.7)
+    fn drifted(mut self, n: u32) -> Clock
+        ensures { λ r. ⌜ r ≡ driftedOf self n ⌝ }
+    {
+        self.bus = self.bus.older(n);
+        self.divider = turned_by(self.divider, n);
+        self.alarm = self.alarm.lessened(n);
+        self.countdown = self.countdown.drifted(self.control.intde, n);
+        self.hand = self.hand.drifted(n);
+        self
+    }
+
+    // n pulses: as many as only count at once, then the next by its stages. (rule 4.7)
     pub(crate) fn pulses(self, n: u16) -> Clock
         ensures { λ r. ⌜ r ≡ pulsesOf self n ⌝ }
     {
         let mut c = self;
-        let mut i = 0;
-        while i < n {
-            c = c.pulse();
-            i = i + 1;
+        let mut left = n as u32;
+        while 0 < left {
+            let within = c.within(left - 1);
+            c = c.drifted(within).pulse();
+            left = left - 1 - within;
         }
         c
     }

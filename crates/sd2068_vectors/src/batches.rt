@@ -82,7 +82,7 @@ fn with_run(tally: Tally, file: &[u8], out: &mut [u8], room: usize, drawn: u32) 
     }
     let ran = run(file, &mut out[..room]);
     let to_ran = mix_ran(tally.digest, ran, room);
-    let to_output = mix_bytes(to_ran, &out[..end]);
+    let to_output = mix_bytes(to_ran, &out[..end], 0);
     let refusal = ran.refusal;
     tally.with(mix_state(to_output, ran.clock), refusal, drawn)
 }

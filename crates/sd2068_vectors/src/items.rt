@@ -1,11 +1,11 @@
 // The items of the input: scripts from power-on or from a state, and batches of random files or steps.
 use crate::batches::run_batches;
-use crate::form::clock_of;
-use crate::form::long;
 use crate::lines::print_refusal;
 use crate::scripts::run_events;
 use crate::tables::SIZE;
+use crate::words::long;
 use libc::STDIN_FILENO;
+use state_bytes::clock_of;
 
 // The most items of one input.
 const MOST: u32 = 1000000;
@@ -59,7 +59,7 @@ fn from_state() -> bool {
     if got < 61 {
         return false;
     }
-    run_events(clock_of(bytes));
+    run_events(clock_of(&bytes));
     true
 }
 

@@ -1,11 +1,11 @@
 // The lines that are printed. (rule 8.1)
-use crate::form::rest_of;
 use crate::tally::Tally;
 use events::Answer;
 use events::Refusal;
 use libc::STDOUT_FILENO;
 use sd2068::Clock;
 use sd2068::Stepped;
+use state_bytes::bytes_of;
 
 // Nothing for no refusal.
 pub fn print_refusal(refusal: Refusal) {
@@ -48,20 +48,21 @@ fn print_byte(b: u8) {
     print(&pair);
 }
 
-fn print_bytes(bytes: &[u8]) {
-    let mut i = 0;
+// The bytes from a place on.
+fn print_bytes(bytes: &[u8], from: usize) {
+    let mut i = from;
     while i < bytes.len() {
         print_byte(bytes[i]);
         i = i + 1;
     }
 }
 
-// All of a state, the registers first.
+// All of a state: the registers as the chip shows them, then the bytes that stand behind them.
 pub fn print_state(c: Clock) {
     let registers = c.registers();
-    print_bytes(&registers);
-    let rest = rest_of(c);
-    print_bytes(&rest);
+    print_bytes(&registers, 0);
+    let bytes = bytes_of(c);
+    print_bytes(&bytes, 32);
     print(b"\n");
 }
 

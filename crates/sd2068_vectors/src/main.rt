@@ -5,7 +5,6 @@ mod damage;
 mod digest;
 mod draws;
 mod files;
-mod form;
 mod items;
 mod lines;
 mod moves;
@@ -15,6 +14,7 @@ mod states;
 mod steps;
 mod tables;
 mod tally;
+mod words;
 
 fn main() {
     items::run_all();

@@ -1,7 +1,7 @@
 // A script: a count of events, and the events one after the other. (rule 8.1)
-use crate::form::word;
 use crate::lines::print_state;
 use crate::lines::print_step;
+use crate::words::word;
 use libc::STDIN_FILENO;
 use sd2068::Clock;
 

@@ -2,7 +2,6 @@
 use crate::digest::mix;
 use crate::digest::mix_bytes;
 use crate::digest::mix_state;
-use crate::form::clock_of;
 use crate::moves::length_near;
 use crate::pen::Pen;
 use crate::states::put_state;
@@ -10,6 +9,7 @@ use crate::tables::row_byte;
 use crate::tally::Tally;
 use sd2068::Clock;
 use sd2068::Stepped;
+use state_bytes::clock_of;
 ghost use Prim.Native.Nat.{_≤_, _<_};
 
 // A field of an event, and the pen after it was drawn.
@@ -21,7 +21,7 @@ struct Field {
 pub fn with_step(tables: &[u8], tally: Tally) -> Tally {
     let mut bytes = [0u8; 61];
     let p = put_state(tables, &mut bytes, Pen::new(tally.drawn, 0));
-    with_event(tables, tally, clock_of(bytes), p.next())
+    with_event(tables, tally, clock_of(&bytes), p.next())
 }
 
 fn with_event(tables: &[u8], tally: Tally, c: Clock, p: Pen) -> Tally {
@@ -41,7 +41,7 @@ fn mix_step(d: u32, r: Stepped) -> u32 {
     let pin = r.pin;
     let to_refusal = mix(d, refusal.number() as u32);
     let text = answer.text();
-    mix(mix_bytes(to_refusal, &text), pin.letter() as u32)
+    mix(mix_bytes(to_refusal, &text, 0), pin.letter() as u32)
 }
 
 fn byte_after(tables: &[u8], kind: u8, p: Pen) -> Field {

@@ -1,7 +1,7 @@
 // What is drawn from: rows of bytes, moves, lengths and edges, as the input hands them in.
-use crate::form::long;
-use crate::form::word;
 use crate::pen::Pen;
+use crate::words::long;
+use crate::words::word;
 
 // 24 rows of 16 bytes, 32 moves of 16 items, 16 lengths of two bytes, 16 edges of four.
 pub const SIZE: usize = 992;

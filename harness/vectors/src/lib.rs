@@ -1,5 +1,6 @@
 //! Test input for programs that run chip scripts, and the output they owe.
 
+pub mod boundary;
 pub mod chance;
 pub mod file;
 pub mod lines;

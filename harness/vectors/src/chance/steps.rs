@@ -90,7 +90,7 @@ fn short_counter(draws: &mut Draws, end: u32) -> [u8; 2] {
 }
 
 /// Mostly an event that is not refused by itself.
-pub(super) fn draw_event(draws: &mut Draws) -> Event {
+pub fn draw_event(draws: &mut Draws) -> Event {
     let kind = draws.mostly_below(7);
     let byte = match kind {
         Event::BYTE => draws.byte_of(ANY_BYTE_ROW),

@@ -1,4 +1,4 @@
--- The index stays within the bytes. Assumes nothing.
+-- The index goes up to the last byte. Assumes nothing.
 use Prim.Native.Nat.{_-_, _≤_}
 use lib.ListN.{length}
 use borrow.Author.Needs.{needs}
@@ -6,10 +6,10 @@ use Rattle.sd2068_vectors.proofs.digest.mix_bytes.Statement.{statement}
 use Rattle.sd2068_vectors.proofs.digest.mix_bytes.Tie as tie
 
 abbrev Inv-loop : tie.InvT-loop
-Inv-loop d bytes to₀ i₀ to i = i ≤ length bytes
+Inv-loop d bytes from to₀ i₀ to i = 0 ≤ i
 
 abbrev μ-loop : tie.MeasureT-loop
-μ-loop d bytes to₀ i₀ to i = length bytes - i
+μ-loop d bytes from to₀ i₀ to i = length bytes - i
 
 loop-holds : tie.Need-loop-holds Inv-loop μ-loop
 loop-holds c = search needs

@@ -1,0 +1,158 @@
+-- What a call tells and leaves, from what the functions below say. Assumes nothing.
+use mathlib.Core.Path.{_≡_, refl, sym, ap, _∙_}
+use mathlib.Core.Bool.{Bool, true, false, cond, _&&_}
+use mathlib.Core.List.{List}
+use Prim.Native.Nat.{ℕ}
+use lib.Dec.{eqb}
+use lib.ListN.{length}
+use borrow.Author.Tests.{eq-eqb, ne-eqb, eqb-true}
+use Rattle.fields.proofs.FieldLaws.{and-left, and-right}
+use Rattle.fields.proofs.Picked.{picked}
+use Rattle.events.specs.declared.answer.Answer.{Answer}
+use Rattle.events.specs.declared.answer.Answer.the-variants.{Quiet}
+use Rattle.events.specs.Refusal.{numberOf, faultOf}
+use Rattle.sd2068.specs.declared.answers.Answered.{Answered}
+use Rattle.sd2068.specs.declared.answers.Started.{Started}
+use Rattle.sd2068.specs.Power.{Power, powerOnOf}
+use Rattle.sd2068.specs.Pin.{pinOf}
+use Rattle.sd2068.specs.Step.{quietOf, eventOf, refusalOf, started}
+use Rattle.sd2068.specs.WellFormed.{wellFormedOf}
+use Rattle.sd2068.proofs.WellLaws.{Well, parts, whole, event-well}
+use Rattle.script.specs.declared.file.Ran.{Ran}
+use Rattle.script.specs.File as script
+use Rattle.script.specs.File.{Run}
+use Rattle.state_bytes.specs.Decoded.{clockOf, plainOf, isState}
+use Rattle.state_bytes.specs.Encoded.{bytesOf}
+use Rattle.state_bytes.specs.Put.{putState}
+use Rattle.state_bytes.specs.Shapes.{Bytes}
+use Rattle.state_bytes.proofs.RoundLaws.{decoded-well, decoded-again, pin-back}
+use Rattle.sd2068_abi.specs.Told.{toldOf, ranOf}
+use Rattle.sd2068_abi.specs.Abi.{Lent, lent, LentRun, lentRun, fullOf, acceptedOf, powerOf, answeredOf, doneOf, stepOf, runOf}
+use Rattle.state_bytes.specs.Traffic.{Done, done}
+use Rattle.state_bytes.specs.Event.{eventIn, answeredIn}
+use Rattle.state_bytes.proofs.TrafficLaws.{doneBy}
+use Rattle.state_bytes.proofs.EventLaws.{event-left}
+
+-- which bytes are accepted
+module _ (s : List ℕ) where
+  pub accepted : length s ≡ 61 → wellFormedOf (clockOf s) ≡ true → plainOf s ≡ true → acceptedOf s ≡ true
+  unfolding acceptedOf isState
+  accepted h w p = simp (eq-eqb (length s) 61 h, w, p)
+
+  pub other-length : (length s ≡ 61 → ⊥) → acceptedOf s ≡ false
+  unfolding acceptedOf
+  other-length h = ap (λ (b : Bool). b && isState s) (ne-eqb (length s) 61 h)
+
+  no-state : isState s ≡ false → (full : Bool) → full && isState s ≡ false
+  no-state e true = e
+  no-state e false = refl
+
+  pub neither : wellFormedOf (clockOf s) && plainOf s ≡ false → acceptedOf s ≡ false
+  unfolding acceptedOf isState
+  neither e = no-state e (fullOf s)
+
+  pub both : length s ≡ 61 → wellFormedOf (clockOf s) && plainOf s ≡ true → acceptedOf s ≡ true
+  both h e =
+      accepted h (and-left (wellFormedOf (clockOf s)) (plainOf s) e) (and-right (wellFormedOf (clockOf s)) (plainOf s) e)
+
+  pub no-other : isState s ≡ false → acceptedOf s ≡ false
+  unfolding acceptedOf
+  no-other e = no-state e (fullOf s)
+
+-- bytes that are accepted have the length of a state and are one's
+module _ (s : List ℕ) (e : acceptedOf s ≡ true) where
+  pub accepted-full : length s ≡ 61
+  unfolding acceptedOf
+  accepted-full = eqb-true (length s) 61 (and-left (fullOf s) (isState s) e)
+
+  pub accepted-state : isState s ≡ true
+  unfolding acceptedOf
+  accepted-state = and-right (fullOf s) (isState s) e
+
+-- what only looks at a state
+module _ (s : List ℕ) (n : ℕ) where
+  pub shown-refused : acceptedOf s ≡ false → _≡_ {A = ℕ} 1 (cond (acceptedOf s) n 1)
+  shown-refused e = sym (ap (λ (b : Bool). cond b n 1) e)
+
+  pub shown-taken : acceptedOf s ≡ true → n ≡ cond (acceptedOf s) n 1
+  shown-taken e = sym (ap (λ (b : Bool). cond b n 1) e)
+
+-- all bytes are written where there is room for them
+pub put-full : (s bytes : List ℕ) → length s ≡ 61 → putState s bytes ≡ bytes
+put-full s bytes h = simp (eq-eqb (length s) 61 h)
+
+-- a power-on
+pub power-told :
+    (start s out : List ℕ) (n : ℕ) (on : Started) → length s ≡ 61 → started on ≡ powerOnOf start → n ≡ numberOf (on .refusal) → out ≡ bytesOf (on .clock) →
+    lent n out ≡ powerOf start s
+unfolding powerOf
+power-told start s out n on h e p q =
+    let said : lent n out ≡ lent (powerOnOf start .refusal) (bytesOf (powerOnOf start .state)) =
+    λ i. lent ((p ∙ ap (λ (m : Power). m .refusal) e) i) ((q ∙ ap (λ (m : Power). bytesOf (m .state)) e) i) in
+    said ∙ sym (ap (λ (b : Bool). cond b (lent (powerOnOf start .refusal) (bytesOf (powerOnOf start .state))) (lent 1 s)) (eq-eqb (length s) 61 h))
+
+pub power-other : (start s : List ℕ) → (length s ≡ 61 → ⊥) → lent 1 s ≡ powerOf start s
+unfolding powerOf
+power-other start s h = simp (ne-eqb (length s) 61 h)
+
+-- a step
+module _ (s : List ℕ) (kind byte count : ℕ) where
+  pub step-refused : acceptedOf s ≡ false → lent 1 s ≡ stepOf s kind byte count
+  unfolding stepOf
+  step-refused e = sym (ap (λ (b : Bool). cond b (doneOf (clockOf s) kind byte count) (lent 1 s)) e)
+
+  -- on bytes that are a state's, what is told and left is that of the event's state
+  module _ (bytes : Bytes s) (taken : isState s ≡ true) where
+    w : Well (clockOf s)
+    w = parts (clockOf s) (decoded-well s bytes taken)
+
+    number : faultOf kind byte count ≡ refusalOf (clockOf s) kind byte count
+    unfolding refusalOf
+    number = sym (ap (λ (b : Bool). cond b (faultOf kind byte count) 1) (decoded-well s bytes taken))
+
+    left-by :
+        (b : Bool) → eqb (faultOf kind byte count) 0 ≡ b →
+        cond b (eventIn s kind byte count) (done Quiet s) ≡ doneBy (cond b (eventOf (clockOf s) kind byte count) (quietOf (clockOf s)))
+    left-by true e = event-left s (decoded-again s bytes taken) w byte count kind (eqb-true (faultOf kind byte count) 0 e)
+    left-by false e = ap (done Quiet) (sym (decoded-again s bytes taken))
+
+    left : answeredIn s (faultOf kind byte count) kind byte count ≡ doneBy (answeredOf (clockOf s) kind byte count)
+    left =
+        left-by (eqb (faultOf kind byte count) 0) refl
+        ∙ ap (λ (n : ℕ). doneBy (cond (eqb n 0) (eventOf (clockOf s) kind byte count) (quietOf (clockOf s)))) number
+
+    kept : wellFormedOf (answeredOf (clockOf s) kind byte count .clock) ≡ true
+    kept =
+        whole (answeredOf (clockOf s) kind byte count .clock)
+        (picked (λ (a : Answered). Well (a .clock)) (eqb (refusalOf (clockOf s) kind byte count) 0) (event-well (clockOf s) w kind byte count) w)
+
+    pub step-told :
+        (r n level : ℕ) (answer : Answer) (out : List ℕ) → n ≡ faultOf kind byte count → done answer out ≡ answeredIn s n kind byte count →
+        level ≡ pinOf (clockOf out) → r ≡ toldOf n level answer → lent r out ≡ stepOf s kind byte count
+    unfolding stepOf doneOf acceptedOf
+    step-told r n level answer out fault said pin told =
+        let a = answeredOf (clockOf s) kind byte count in
+        let all : done answer out ≡ doneBy a = said ∙ ap (λ (m : ℕ). answeredIn s m kind byte count) fault ∙ left in
+        let bytes-left : out ≡ bytesOf (a .clock) = ap (λ (d : Done). d .state) all in
+        let shown : level ≡ pinOf (a .clock) = pin ∙ ap (λ (l : List ℕ). pinOf (clockOf l)) bytes-left ∙ pin-back (a .clock) kept in
+        let accepts : fullOf s && isState s ≡ true = λ i. eq-eqb (length s) 61 (bytes .long) i && taken i in
+        (λ i. lent ((told ∙ (λ j. toldOf ((fault ∙ number) j) (shown j) (all j .answer))) i) (bytes-left i))
+        ∙ sym (ap (λ (b : Bool). cond b (doneOf (clockOf s) kind byte count) (lent 1 s)) accepts)
+
+-- a run
+pub run-told :
+    (file out s written left : List ℕ) (n : ℕ) (r : Ran) → length s ≡ 61 → script.ran r written ≡ script.runOf file out →
+    n ≡ ranOf (numberOf (r .refusal)) (r .index) (r .count) → left ≡ bytesOf (r .clock) → lentRun n written left ≡ runOf file out s
+unfolding runOf
+run-told file out s written left n r h e p q =
+    let m = script.runOf file out in
+    let said : lentRun n written left ≡ lentRun (ranOf (m .refusal) (m .index) (m .count)) (m .output) (bytesOf (m .state)) =
+    λ i.
+    lentRun ((p ∙ ap (λ (x : Run). ranOf (x .refusal) (x .index) (x .count)) e) i) (ap (λ (x : Run). x .output) e i)
+    ((q ∙ ap (λ (x : Run). bytesOf (x .state)) e) i) in
+    said
+    ∙ sym (ap (λ (b : Bool). cond b (lentRun (ranOf (m .refusal) (m .index) (m .count)) (m .output) (bytesOf (m .state))) (lentRun 1 out s)) (eq-eqb (length s) 61 h))
+
+pub run-other : (file out s : List ℕ) → (length s ≡ 61 → ⊥) → lentRun 1 out s ≡ runOf file out s
+unfolding runOf
+run-other file out s h = simp (ne-eqb (length s) 61 h)

@@ -1,0 +1,3 @@
+pub mod AbiLaws
+pub mod BoundaryLaws
+pub mod Settled

@@ -1,0 +1,77 @@
+-- What each function of the boundary tells, and what it leaves in the bytes that it is lent. (rules 10.3 to 10.8)
+use mathlib.Core.Bool.{Bool, cond, _&&_}
+use mathlib.Core.List.{List}
+use Prim.Native.Nat.{ℕ}
+use lib.Dec.{eqb}
+use lib.ListN.{length}
+use Rattle.events.specs.declared.answer.Answer.the-variants.{Quiet, Byte}
+use Rattle.sd2068.specs.declared.clock.Clock.{Clock}
+use Rattle.sd2068.specs.declared.answers.Answered.{Answered}
+use Rattle.sd2068.specs.Power.{powerOnOf}
+use Rattle.sd2068.specs.Pin as pin
+use Rattle.sd2068.specs.Reading as reading
+use Rattle.sd2068.specs.Step.{quietOf, eventOf, refusalOf}
+use Rattle.script.specs.File as script
+use Rattle.script.specs.File.{Run}
+use Rattle.state_bytes.specs.Decoded.{clockOf, isState}
+use Rattle.state_bytes.specs.Encoded.{bytesOf}
+use Rattle.sd2068_abi.specs.Told.{toldOf, ranOf}
+
+-- a number that is told, and the bytes that are left
+pub record Lent : Type 0 where
+  pub told : ℕ
+  pub state : List ℕ
+
+abbrev pub lent : ℕ → List ℕ → Lent
+lent told state = record { told = told; state = state }
+
+-- bytes of the length of a state
+abbrev pub fullOf : List ℕ → Bool
+fullOf s = eqb (length s) 61
+
+-- bytes that are exactly those of a well-formed state
+unfoldable pub acceptedOf : List ℕ → Bool
+acceptedOf s = fullOf s && isState s
+
+-- power-on: refusal 1 for a state of another length, which stays
+unfoldable pub powerOf : List ℕ → List ℕ → Lent
+powerOf start s =
+    let on = powerOnOf start in
+    cond (fullOf s) (lent (on .refusal) (bytesOf (on .state))) (lent 1 s)
+
+-- the event, or nothing where its fields are refused
+abbrev pub answeredOf : Clock → ℕ → ℕ → ℕ → Answered
+answeredOf c kind byte count = cond (eqb (refusalOf c kind byte count) 0) (eventOf c kind byte count) (quietOf c)
+
+-- one event on a state
+unfoldable pub doneOf : Clock → ℕ → ℕ → ℕ → Lent
+doneOf c kind byte count =
+    let a = answeredOf c kind byte count in
+    lent (toldOf (refusalOf c kind byte count) (pin.pinOf (a .clock)) (a .answer)) (bytesOf (a .clock))
+
+-- one event on bytes: refusal 1 for those that are no state's, which stay
+unfoldable pub stepOf : List ℕ → ℕ → ℕ → ℕ → Lent
+stepOf s kind byte count = cond (acceptedOf s) (doneOf (clockOf s) kind byte count) (lent 1 s)
+
+-- the pin
+unfoldable pub pinOf : List ℕ → ℕ
+pinOf s = cond (acceptedOf s) (toldOf 0 (pin.pinOf (clockOf s)) Quiet) 1
+
+-- a register as it stands
+unfoldable pub registerOf : List ℕ → ℕ → ℕ
+registerOf s a =
+    cond (acceptedOf s) (toldOf 0 (pin.pinOf (clockOf s)) (Byte (reading.registerOf (clockOf s) a))) 1
+
+-- a run: what is told, the output, the state
+pub record LentRun : Type 0 where
+  pub told : ℕ
+  pub output : List ℕ
+  pub state : List ℕ
+
+abbrev pub lentRun : ℕ → List ℕ → List ℕ → LentRun
+lentRun told output state = record { told = told; output = output; state = state }
+
+unfoldable pub runOf : List ℕ → List ℕ → List ℕ → LentRun
+runOf file out s =
+    let r = script.runOf file out in
+    cond (fullOf s) (lentRun (ranOf (r .refusal) (r .index) (r .count)) (r .output) (bytesOf (r .state))) (lentRun 1 out s)

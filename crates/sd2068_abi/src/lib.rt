@@ -1,0 +1,107 @@
+// The boundary for boards in C and Rust: include/tallowreed.h says it for C. (rules 10.1 to 10.8)
+use crate::told::ran;
+use crate::told::told;
+use events::Answer;
+use events::fault;
+use script::run;
+use sd2068::power_on;
+use state_bytes::answered;
+use state_bytes::bytes_of;
+use state_bytes::clock_of;
+use state_bytes::is_state;
+use state_bytes::pin_of;
+use state_bytes::plain;
+use state_bytes::put_state;
+ghost use mathlib.Core.Path.{_≡_};
+ghost use Rattle.sd2068_abi.specs.Abi.{lent, lentRun, powerOf, stepOf, pinOf, registerOf, runOf};
+
+mod told;
+
+// The length of a state. (rule 10.1)
+#[no_mangle]
+pub extern "C" fn tallowreed_state_size() -> usize
+    ensures { λ r. ⌜ r ≡ 61 ⌝ }
+{
+    61
+}
+
+// Power-on from start bytes. (rule 10.4)
+#[no_mangle]
+pub extern "C" fn tallowreed_power_on(start: &[u8], state: &mut [u8]) -> u8
+    ensures { λ r. ⌜ lent r (now (state .exit)) ≡ powerOf (now (start .entry)) (now (state .entry)) ⌝ }
+{
+    if state.len() != 61 {
+        return 1;
+    }
+    let on = power_on(start);
+    let clock = on.clock;
+    let refusal = on.refusal;
+    put_state(state, bytes_of(clock));
+    refusal.number()
+}
+
+// One event. (rule 10.5)
+#[no_mangle]
+pub extern "C" fn tallowreed_step(state: &mut [u8], kind: u8, byte: u8, count: u16) -> u32
+    ensures { λ r. ⌜ lent r (now (state .exit)) ≡ stepOf (now (state .entry)) kind byte count ⌝ }
+{
+    if state.len() != 61 {
+        return 1;
+    }
+    if !is_state(state) {
+        return 1;
+    }
+    let refusal = fault(kind, byte, count);
+    let number = refusal.number();
+    let answer = answered(state, number, kind, byte, count);
+    told(number, pin_of(state), answer)
+}
+
+// The pin. (rule 10.6)
+#[no_mangle]
+pub extern "C" fn tallowreed_pin(state: &[u8]) -> u32
+    ensures { λ r. ⌜ r ≡ pinOf (now (state .entry)) ⌝ }
+{
+    if state.len() != 61 {
+        return 1;
+    }
+    let clock = clock_of(state);
+    if clock.well_formed() & plain(state) {
+        let quiet = Answer::Quiet;
+        told(0, clock.pin(), quiet)
+    } else {
+        1
+    }
+}
+
+// A register as it stands. (rule 10.7)
+#[no_mangle]
+pub extern "C" fn tallowreed_register(state: &[u8], address: u8) -> u32
+    ensures { λ r. ⌜ r ≡ registerOf (now (state .entry)) address ⌝ }
+{
+    if state.len() != 61 {
+        return 1;
+    }
+    let clock = clock_of(state);
+    if clock.well_formed() & plain(state) {
+        let byte = Answer::Byte(clock.register(address));
+        told(0, clock.pin(), byte)
+    } else {
+        1
+    }
+}
+
+// A whole script file. (rule 10.8)
+#[no_mangle]
+pub extern "C" fn tallowreed_run(file: &[u8], output: &mut [u8], state: &mut [u8]) -> u64
+    ensures { λ r. ⌜ lentRun r (now (output .exit)) (now (state .exit)) ≡ runOf (now (file .entry)) (now (output .entry)) (now (state .entry)) ⌝ }
+{
+    if state.len() != 61 {
+        return 1;
+    }
+    let done = run(file, output);
+    let clock = done.clock;
+    let refusal = done.refusal;
+    put_state(state, bytes_of(clock));
+    ran(refusal.number(), done.index, done.count)
+}

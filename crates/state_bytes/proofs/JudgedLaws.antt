@@ -1,0 +1,59 @@
+-- Bytes are a state's by three tests: what is plain, the bus, and the other groups. Assumes nothing.
+use mathlib.Core.Path.{_≡_, refl, sym, ap, _∙_}
+use mathlib.Core.Bool.{Bool, true, false, _&&_, not, true≢false}
+use mathlib.Core.List.{List}
+use Prim.Native.Nat.{ℕ}
+use Rattle.registers.specs.Fixed.{clearTimeOf}
+use Rattle.hand.specs.Hand as hand
+use Rattle.alarm.specs.Alarm as alarm
+use Rattle.countdown.specs.Countdown as countdown
+use Rattle.control.specs.Lock as lock
+use Rattle.control.specs.Control as control
+use Rattle.bus.specs.Phase as bus
+use Rattle.sd2068.specs.WellFormed.{dividerWell, wellFormedOf}
+use Rattle.state_bytes.specs.Decoded.{handOf, alarmOf, countdownOf, lockOf, controlOf, dividerOf, busOf, clockOf, plainOf, isState}
+use Rattle.state_bytes.specs.Places.{timeAt}
+
+-- a test turned round
+pub turned-true : (b : Bool) → not b ≡ true → b ≡ false
+turned-true true e = absurd (true≢false (sym e))
+turned-true false e = refl
+
+pub turned-false : (b : Bool) → not b ≡ false → b ≡ true
+turned-false true e = refl
+turned-false false e = absurd (true≢false e)
+
+and-false : (b : Bool) → b && false ≡ false
+and-false true = refl
+and-false false = refl
+
+and-true : (b : Bool) → b && true ≡ b
+and-true true = refl
+and-true false = refl
+
+-- the groups but for the bus
+abbrev pub groupsWell : List ℕ → Bool
+groupsWell s =
+    hand.wellOf (handOf s)
+    && alarm.wellOf (alarmOf s)
+    && countdown.wellOf (countdownOf s)
+    && lock.wellOf (lockOf s)
+    && control.wellOf (controlOf s)
+    && clearTimeOf (timeAt s 32)
+    && dividerWell (dividerOf s)
+
+module _ (s : List ℕ) where
+  state-by : isState s ≡ groupsWell s && bus.wellOf (busOf s) && plainOf s
+  unfolding isState wellFormedOf clockOf
+  state-by = refl
+
+  pub not-plain : plainOf s ≡ false → false ≡ isState s
+  not-plain e =
+      sym (state-by ∙ ap (λ (b : Bool). groupsWell s && bus.wellOf (busOf s) && b) e ∙ and-false (groupsWell s && bus.wellOf (busOf s)))
+
+  pub not-bus : bus.wellOf (busOf s) ≡ false → false ≡ isState s
+  not-bus e = sym (state-by ∙ ap (λ (b : Bool). b && plainOf s) (ap (λ (b : Bool). groupsWell s && b) e ∙ and-false (groupsWell s)))
+
+  pub by-groups : bus.wellOf (busOf s) ≡ true → plainOf s ≡ true → groupsWell s ≡ isState s
+  by-groups b p =
+      sym (state-by ∙ (λ i. groupsWell s && b i && p i) ∙ and-true (groupsWell s && true) ∙ and-true (groupsWell s))

@@ -1,0 +1,62 @@
+-- By the address. Assumes nothing.
+use borrow.Author.Tests.{lt-ltb, le-ltb}
+use borrow.Author.Needs.{needs}
+use Rattle.state_bytes.proofs.written.put_stored.Statement.{statement}
+use Rattle.state_bytes.proofs.written.put_stored.Tie as tie
+
+put-time-requires : tie.Need-put-time-requires
+put-time-requires c κs = tt
+
+kept-requires : tie.Need-kept-requires
+kept-requires c κs = tt
+
+put-at-requires : tie.Need-put-at-requires
+put-at-requires c κs = tt
+
+put-controls-requires : tie.Need-put-controls-requires
+put-controls-requires c κs = tt
+
+put-at-requires-2 : tie.Need-put-at-requires-2
+put-at-requires-2 c κs = tt
+
+same-length : tie.Need-same-length
+same-length c = search needs
+
+returns : tie.Need-returns
+returns c = simp (c .before .before .put-time .ensures, lt-ltb _ _ (c .before .before .before .before .if1 .taken))
+
+same-length-2 : tie.Need-same-length-2
+same-length-2 c = search needs
+
+returns-2 : tie.Need-returns-2
+returns-2 c = simp (c .before .before .put-at .ensures, c .before .before .before .kept .ensures, le-ltb _ _ (c .before .before .before .before .before .before .if1 .left), lt-ltb _ _ (c .before .before .before .before .before .if2 .taken))
+
+same-length-3 : tie.Need-same-length-3
+same-length-3 c = search needs
+
+returns-3 : tie.Need-returns-3
+returns-3 c = simp (c .before .before .put-controls .ensures, le-ltb _ _ (c .before .before .before .before .before .before .if1 .left), le-ltb _ _ (c .before .before .before .before .before .if2 .left), lt-ltb _ _ (c .before .before .before .before .if3 .taken))
+
+same-length-4 : tie.Need-same-length-4
+same-length-4 c = search needs
+
+returns-4 : tie.Need-returns-4
+returns-4 c = simp (c .before .before .put-at2 .ensures, le-ltb _ _ (c .before .before .before .before .before .before .if1 .left), le-ltb _ _ (c .before .before .before .before .before .if2 .left), le-ltb _ _ (c .before .before .before .before .if3 .left))
+
+pub put-stored-spec : {M : Type 1} → statement M
+put-stored-spec =
+    tie.close
+    (tie.spec
+    put-time-requires
+    kept-requires
+    put-at-requires
+    put-controls-requires
+    put-at-requires-2
+    same-length
+    returns
+    same-length-2
+    returns-2
+    same-length-3
+    returns-3
+    same-length-4
+    returns-4)

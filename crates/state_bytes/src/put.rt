@@ -1,0 +1,65 @@
+// Parts of a state written over their bytes. (rule 10.2)
+use crate::phases::age_in;
+use crate::phases::mark_in;
+use crate::phases::number_in;
+use crate::places::put_at;
+use crate::words::high;
+use crate::words::low;
+use crate::words::second;
+use crate::words::third;
+use bus::Bus;
+use calendar::Time;
+use countdown::Countdown;
+ghost use mathlib.Core.Path.{_≡_};
+ghost use Rattle.state_bytes.specs.Put.{putTime, putWord, putLong, putCountdown, putBus};
+
+pub(crate) fn put_time(s: &mut [u8], i: u8, t: Time)
+    ensures { λ _. ⌜ now (s .exit) ≡ putTime (now (s .entry)) i t ⌝ }
+{
+    let i = i as usize;
+    put_at(s, i, t.seconds);
+    put_at(s, i + 1, t.minutes);
+    put_at(s, i + 2, t.hours);
+    put_at(s, i + 3, t.weekday);
+    put_at(s, i + 4, t.day);
+    put_at(s, i + 5, t.month);
+    put_at(s, i + 6, t.year);
+}
+
+fn put_word(s: &mut [u8], i: u8, v: u32)
+    ensures { λ _. ⌜ now (s .exit) ≡ putWord (now (s .entry)) i v ⌝ }
+{
+    let i = i as usize;
+    put_at(s, i, low(v));
+    put_at(s, i + 1, second(v));
+}
+
+pub(crate) fn put_long(s: &mut [u8], i: u8, v: u32)
+    ensures { λ _. ⌜ now (s .exit) ≡ putLong (now (s .entry)) i v ⌝ }
+{
+    let i = i as usize;
+    put_at(s, i, low(v));
+    put_at(s, i + 1, second(v));
+    put_at(s, i + 2, third(v));
+    put_at(s, i + 3, high(v));
+}
+
+// But for the flag, which stands in 0Fh beside others.
+pub(crate) fn put_countdown(s: &mut [u8], countdown: Countdown)
+    ensures { λ _. ⌜ now (s .exit) ≡ putCountdown (now (s .entry)) countdown ⌝ }
+{
+    put_at(s, 0x13, countdown.count);
+    put_at(s, 39, countdown.reload);
+    put_word(s, 47, countdown.pulse);
+    put_long(s, 57, countdown.prescaler);
+}
+
+pub(crate) fn put_bus(s: &mut [u8], bus: Bus)
+    ensures { λ _. ⌜ now (s .exit) ≡ putBus (now (s .entry)) bus ⌝ }
+{
+    let phase = bus.phase;
+    put_at(s, 40, bus.pointer);
+    put_at(s, 41, number_in(phase));
+    put_at(s, 42, mark_in(phase));
+    put_word(s, 43, age_in(phase));
+}
