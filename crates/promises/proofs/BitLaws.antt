@@ -1,10 +1,10 @@
 -- The bits of 0Fh and 10h can be put one by one, by tests of all their values that antt computes. Assumes nothing.
-use mathlib.Core.Path.{_≡_, refl, sym, _∙_}
-use mathlib.Core.Bool.{Bool, true, false, cond, Bool·beq}
-use Prim.Native.Nat.{ℕ, _+_, _<_}
-use lib.Dec.{T, eqb, eqb→eq, lit<}
+use mathlib.Core.Path.{_≡_, sym, _∙_}
+use mathlib.Core.Bool.{Bool}
+use Prim.Native.Nat.{ℕ, _<_}
+use lib.Dec.{eqb, eqb→eq, lit<}
 use Rattle.fields.proofs.Below.{agree}
-use Rattle.fields.proofs.Bits.{each-bit, same}
+use Rattle.fields.proofs.Bits.{each-bit}
 use Rattle.sd2068.proofs.ListedLaws.{ctr1, ctr2}
 use Rattle.promises.specs.Registers.{bit, put}
 

@@ -16,10 +16,10 @@ use Rattle.bus.proofs.AgeLaws.{older-add}
 use Rattle.sd2068.specs.declared.clock.Clock.{Clock}
 use Rattle.sd2068.specs.Controls.{tdsOf}
 use Rattle.sd2068.specs.Clock.{withDivider, withBus}
-use Rattle.sd2068.specs.Pulse.{turnedOverOf, turnedByOf, pulseOf, withinOf, driftedOf}
+use Rattle.sd2068.specs.Pulse.{turnedByOf, pulseOf, withinOf, driftedOf}
 
 -- one more turn of the divider
-turned-more : (d k : ℕ) → turnedOverOf (turnedByOf d k) ≡ turnedByOf d (suc k)
+turned-more : (d k : ℕ) → turnedByOf (turnedByOf d k) 1 ≡ turnedByOf d (suc k)
 turned-more d k = omega arith
 
 module _ (c : Clock) where

@@ -31,7 +31,7 @@ use Rattle.sd2068.specs.Controls.{tdsOf}
 use Rattle.sd2068.specs.Clock.{withHand, withAlarm, withCountdown, withLock, withLatched, withDivider, withBus}
 use Rattle.sd2068.specs.Power.{poweredOf, lostOf}
 use Rattle.sd2068.specs.Writing.{ramStoredOf, storesOf, writeOf}
-use Rattle.sd2068.specs.Pulse.{agedOf, turnedOverOf, dividedOf, pinPulsedOf, countedOf, advancedOf, rungOf, pulseOf, pulsesOf}
+use Rattle.sd2068.specs.Pulse.{agedOf, turnedByOf, dividedOf, pinPulsedOf, countedOf, advancedOf, rungOf, pulseOf, pulsesOf}
 use Rattle.sd2068.specs.Transfer.{startedOf, stoppedOf, effectedBy, byteOf, renewedOf, sentBy, readOf}
 
 -- what is left of a byte's event once the bus, and what its effect owns, are put back
@@ -150,9 +150,9 @@ pub pulses-bus : (n : ℕ) (c : Clock) → pulsesOf c n .bus ≡ times (λ (b : 
 unfolding pulseOf
 pulses-bus = by-itself (λ c. c .bus) (λ (b : Bus). olderOf b 1) (λ c. refl)
 
-pub pulses-divider : (n : ℕ) (c : Clock) → pulsesOf c n .divider ≡ times turnedOverOf n (c .divider)
+pub pulses-divider : (n : ℕ) (c : Clock) → pulsesOf c n .divider ≡ times (λ (d : ℕ). turnedByOf d 1) n (c .divider)
 unfolding pulseOf
-pulses-divider = by-itself (λ c. c .divider) turnedOverOf (λ c. refl)
+pulses-divider = by-itself (λ c. c .divider) (λ (d : ℕ). turnedByOf d 1) (λ c. refl)
 
 -- the countdown goes by the controls, which no pulse moves
 abbrev pub countdownTurn : Control × Countdown → Control × Countdown

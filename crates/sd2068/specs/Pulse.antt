@@ -16,12 +16,12 @@ use Rattle.sd2068.specs.Clock.{withHand, withAlarm, withCountdown, withD
 abbrev pub agedOf : Clock → Clock
 agedOf c = withBus c (olderOf (c .bus) 1)
 
--- the free divider wraps after 524,287
-abbrev pub turnedOverOf : ℕ → ℕ
-turnedOverOf divider = (divider + 1) % 524288
+-- the free divider n pulses on: it wraps after 524,287
+abbrev pub turnedByOf : ℕ → ℕ → ℕ
+turnedByOf divider n = (divider + n) % 524288
 
 abbrev pub dividedOf : Clock → Clock
-dividedOf c = withDivider c (turnedOverOf (c .divider))
+dividedOf c = withDivider c (turnedByOf (c .divider) 1)
 
 -- pin pulses
 abbrev pub pinPulsedOf : Clock → Clock
@@ -45,10 +45,6 @@ pulseOf c = rungOf (advancedOf (countedOf (pinPulsedOf (dividedOf (agedOf c)))))
 -- n pulses
 abbrev pub pulsesOf : Clock → ℕ → Clock
 pulsesOf c n = times pulseOf n c
-
--- the free divider n pulses on
-abbrev pub turnedByOf : ℕ → ℕ → ℕ
-turnedByOf divider n = (divider + n) % 524288
 
 -- of the next n pulses, as many as only count: they end no second and make no tick
 abbrev pub withinOf : Clock → ℕ → ℕ

@@ -27,7 +27,7 @@ use Rattle.state_bytes.specs.Put.{putState}
 use Rattle.state_bytes.specs.Shapes.{Bytes}
 use Rattle.state_bytes.proofs.RoundLaws.{decoded-well, decoded-again, pin-back}
 use Rattle.sd2068_abi.specs.Told.{toldOf, ranOf}
-use Rattle.sd2068_abi.specs.Abi.{Lent, lent, LentRun, lentRun, fullOf, acceptedOf, powerOf, answeredOf, doneOf, stepOf, runOf}
+use Rattle.sd2068_abi.specs.Abi.{lent, lentRun, fullOf, acceptedOf, powerOf, answeredOf, doneOf, stepOf, runOf}
 use Rattle.state_bytes.specs.Traffic.{Done, done}
 use Rattle.state_bytes.specs.Event.{eventIn, answeredIn}
 use Rattle.state_bytes.proofs.TrafficLaws.{doneBy}

@@ -1,37 +1,37 @@
--- Which bytes are accepted, that a refused step leaves them, and that what a call leaves is accepted by the next. Assumes nothing.
-use mathlib.Core.Path.{_≡_, refl, sym, ap, _∙_}
-use mathlib.Core.Bool.{Bool, true, false, cond, _&&_}
-use mathlib.Core.List.{List, []}
+-- Which bytes are accepted, that a step on them is the chip's, that a refused one leaves them, that what a call leaves is accepted by the next, and that nothing of a run is cut. Assumes nothing.
+use mathlib.Core.Path.{_≡_, refl, sym, ap, subst, _∙_}
+use mathlib.Core.Bool.{Bool, true, false, cond}
+use mathlib.Core.List.{List, [], _∷_}
 use Prim.Native.Nat.{ℕ, _+_, _*_, _%_, _≤_, _<_}
+use native.Mathlib.Nat.{mod-eq-of-lt}
 use native.Mathlib.Omega.{arith}
-use lib.Dec.{eqb, ltb}
+use lib.Dec.{eqb}
 use lib.ListN.{length, getD}
 use borrow.Author.Tests.{eqb-true, eq-eqb}
-use Rattle.fields.proofs.FieldLaws.{and-left, and-right}
 use Rattle.events.specs.declared.answer.Answer.{Answer}
 use Rattle.events.specs.declared.event.Event.{Event}
-use Rattle.events.specs.Refusal.{fieldsOf, faultOf}
-use Rattle.events.proofs.Telling.{equal, either}
+use Rattle.events.specs.Answer.{textOf}
+use Rattle.events.proofs.Telling.{equal, less, either}
 use Rattle.sd2068.specs.declared.clock.Clock.{Clock}
-use Rattle.sd2068.specs.declared.answers.Answered.{Answered}
 use Rattle.sd2068.specs.Power.{powerOnOf}
 use Rattle.sd2068.specs.Pin as pin
 use Rattle.sd2068.specs.Step as steps
-use Rattle.sd2068.specs.Step.{quietOf, eventOf, refusalOf}
+use Rattle.sd2068.specs.Step.{Told, quietOf, eventOf, refusalOf}
 use Rattle.sd2068.specs.Run.{step, after}
 use Rattle.sd2068.specs.WellFormed.{wellFormedOf}
 use Rattle.sd2068.proofs.WellLaws.{whole, power-on-well, step-keeps, steps-well}
 use Rattle.script.specs.File as script
 use Rattle.script.specs.File.{Run}
-use Rattle.script.specs.Rows.{startsOf, listedOf}
-use Rattle.script.proofs.RunLaws.{run-whole, run-untouched}
-use Rattle.state_bytes.specs.Decoded.{clockOf, isState}
+use Rattle.script.specs.Rows.{headerWord, startsOf, listedOf, Whole, Due}
+use Rattle.script.proofs.RunLaws.{run-due, run-whole, run-untouched}
+use Rattle.script.proofs.SectionLaws.{most-events}
+use Rattle.state_bytes.specs.Decoded.{clockOf}
 use Rattle.state_bytes.specs.Encoded.{bytesOf}
 use Rattle.state_bytes.specs.Shapes.{Arrays, Bytes}
 use Rattle.state_bytes.proofs.ArrayLaws.{decoded-arrays, power-on-arrays, step-arrays, steps-arrays}
 use Rattle.state_bytes.proofs.RoundLaws.{encoded-back, encoded-state, decoded-well, decoded-again}
 use Rattle.sd2068_abi.specs.Told.{answerByte, answerNumber, toldOf, ranOf}
-use Rattle.sd2068_abi.specs.Abi.{Lent, lent, fullOf, acceptedOf, powerOf, answeredOf, doneOf, stepOf, lentRun, runOf}
+use Rattle.sd2068_abi.specs.Abi.{Lent, lent, fullOf, acceptedOf, powerOf, answeredOf, doneOf, stepOf, afterIn, lentRun, runOf}
 use Rattle.sd2068_abi.proofs.AbiLaws.{accepted-full, accepted-state}
 
 -- the bytes of a well-formed state are accepted, and it comes back from them
@@ -57,6 +57,39 @@ module _ (s : List ℕ) (each : (i : ℕ) → getD s i 0 < 256) (e : acceptedOf 
 
   pub accepted-encoded : bytesOf (clockOf s) ≡ s
   accepted-encoded = decoded-again s bytes (accepted-state s e)
+
+-- a step on accepted bytes is the chip's: its refusal, its pin, its answer, and the bytes of the state that it leaves
+module _ (c : Clock) (kind byte count : ℕ) where
+  abbrev chip : Told
+  chip = steps.stepOf c kind byte count
+
+  pub chip-told : doneOf c kind byte count .told ≡ toldOf (chip .refusal) (chip .pin) (answeredOf c kind byte count .answer)
+  unfolding doneOf steps.stepOf
+  chip-told = refl
+
+  pub chip-answer : textOf (answeredOf c kind byte count .answer) ≡ chip .answer
+  unfolding steps.stepOf
+  chip-answer = refl
+
+  pub chip-state : doneOf c kind byte count .state ≡ bytesOf (chip .state)
+  unfolding doneOf steps.stepOf
+  chip-state = refl
+
+-- so a board that lends the bytes of a well-formed state has the chip's steps, however many
+pub board-step :
+    (c : Clock) → Arrays c → wellFormedOf c ≡ true → (kind byte count : ℕ) → stepOf (bytesOf c) kind byte count ≡ doneOf c kind byte count
+unfolding stepOf
+board-step c a w kind byte count =
+    ap (λ (t : Bool). cond t (doneOf (clockOf (bytesOf c)) kind byte count) (lent 1 (bytesOf c))) (encoded-accepted c a w)
+    ∙ ap (λ (x : Clock). doneOf x kind byte count) (encoded-decoded c a w)
+
+pub board-steps : (c : Clock) → Arrays c → wellFormedOf c ≡ true → (es : List Event) → afterIn (bytesOf c) es ≡ bytesOf (after step c es)
+unfolding afterIn after
+board-steps c a w [] = refl
+board-steps c a w (e ∷ es) =
+    ap (λ (l : Lent). afterIn (l .state) es) (board-step c a w (e .kind) (e .byte) (e .count))
+    ∙ ap (λ (l : List ℕ). afterIn l es) (chip-state c (e .kind) (e .byte) (e .count))
+    ∙ board-steps (step c e .state) (step-arrays c a (e .kind) (e .byte) (e .count)) (step-keeps c w (e .kind) (e .byte) (e .count)) es
 
 -- the refusal is the lowest byte of what is told
 lowest : (n p x y : ℕ) → n < 256 → (n + 256 * p + 65536 * x + 16777216 * y) % 256 ≡ n
@@ -136,3 +169,35 @@ module _ (file out s : List ℕ) where
       let r = script.runOf file out in
       ap (λ (b : Bool). acceptedOf (cond b (lentRun (ranOf (r .refusal) (r .index) (r .count)) (r .output) (bytesOf (r .state))) (lentRun 1 out s) .state)) (eq-eqb (length s) 61 h)
       ∙ run-reached
+
+-- a file has at most 4,089 events, so neither the index nor the count of a run is cut
+module _ (file out : List ℕ) where
+  few : Whole file → headerWord file 0 ≤ 4089
+  few w = most-events file (w .not5) (either (less 16384 (length file)) (λ long. absurd (w .not8 long)) (λ short. short))
+
+  few-by : {n i : ℕ} → Due file (length out) n i → (i ≤ 4089) × (n ≡ 0 → headerWord file 0 ≤ 4089)
+  few-by (Due.due8 r) = (omega arith, λ e. absurd (omega arith))
+  few-by (Due.due4 a r) = (omega arith, λ e. absurd (omega arith))
+  few-by (Due.due5 a b r) = (omega arith, λ e. absurd (omega arith))
+  few-by (Due.due6 a b c r) = (omega arith, λ e. absurd (omega arith))
+  few-by (Due.due2 i w h sound r) = (let most = few w in omega arith, λ e. few w)
+  few-by (Due.due3 i w h sound a r) = (let most = few w in omega arith, λ e. few w)
+  few-by (Due.due7 w sound r) = (omega arith, λ e. few w)
+  few-by (Due.due0 w sound r) = (omega arith, λ e. few w)
+
+  abbrev ran : Run
+  ran = script.runOf file out
+
+  count-few : ran .count ≤ 4089
+  count-few =
+      either (equal (ran .refusal) 0)
+      (λ zero. subst (λ (n : ℕ). n ≤ 4089) (sym (ap (λ (r : Run). r .count) (run-whole file out zero))) (few-by (run-due file out) .1 zero))
+      (λ more. subst (λ (n : ℕ). n ≤ 4089) (sym (ap (λ (r : Run). r .count) (run-untouched file out more))) (omega arith))
+
+  pub run-uncut : (s : List ℕ) → length s ≡ 61 → runOf file out s .told ≡ ran .refusal + 65536 * ran .index + 4294967296 * ran .count
+  unfolding runOf
+  run-uncut s h =
+      let index : ran .index % 65536 ≡ ran .index = mod-eq-of-lt (omega (arith, few-by (run-due file out) .0)) in
+      let count : ran .count % 65536 ≡ ran .count = mod-eq-of-lt (omega (arith, count-few)) in
+      ap (λ (b : Bool). cond b (lentRun (ranOf (ran .refusal) (ran .index) (ran .count)) (ran .output) (bytesOf (ran .state))) (lentRun 1 out s) .told) (eq-eqb (length s) 61 h)
+      ∙ (λ i. ran .refusal + 65536 * index i + 4294967296 * count i)

@@ -1,10 +1,11 @@
 -- What each function of the boundary tells, and what it leaves in the bytes that it is lent. (rules 10.3 to 10.8)
 use mathlib.Core.Bool.{Bool, cond, _&&_}
-use mathlib.Core.List.{List}
+use mathlib.Core.List.{List, [], _∷_}
 use Prim.Native.Nat.{ℕ}
 use lib.Dec.{eqb}
 use lib.ListN.{length}
 use Rattle.events.specs.declared.answer.Answer.the-variants.{Quiet, Byte}
+use Rattle.events.specs.declared.event.Event.{Event}
 use Rattle.sd2068.specs.declared.clock.Clock.{Clock}
 use Rattle.sd2068.specs.declared.answers.Answered.{Answered}
 use Rattle.sd2068.specs.Power.{powerOnOf}
@@ -12,7 +13,6 @@ use Rattle.sd2068.specs.Pin as pin
 use Rattle.sd2068.specs.Reading as reading
 use Rattle.sd2068.specs.Step.{quietOf, eventOf, refusalOf}
 use Rattle.script.specs.File as script
-use Rattle.script.specs.File.{Run}
 use Rattle.state_bytes.specs.Decoded.{clockOf, isState}
 use Rattle.state_bytes.specs.Encoded.{bytesOf}
 use Rattle.sd2068_abi.specs.Told.{toldOf, ranOf}
@@ -52,6 +52,11 @@ doneOf c kind byte count =
 -- one event on bytes: refusal 1 for those that are no state's, which stay
 unfoldable pub stepOf : List ℕ → ℕ → ℕ → ℕ → Lent
 stepOf s kind byte count = cond (acceptedOf s) (doneOf (clockOf s) kind byte count) (lent 1 s)
+
+-- the bytes after events, one after the other
+unfoldable pub afterIn : List ℕ → List Event → List ℕ
+afterIn s [] = s
+afterIn s (e ∷ es) = afterIn (stepOf s (e .kind) (e .byte) (e .count) .state) es
 
 -- the pin
 unfoldable pub pinOf : List ℕ → ℕ

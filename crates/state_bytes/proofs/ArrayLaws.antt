@@ -1,10 +1,10 @@
 -- Power and every event keep the lengths of the arrays. Assumes nothing.
-use mathlib.Core.Path.{_≡_, refl, sym, ap, _∙_}
-use mathlib.Core.Bool.{Bool, true, false, cond}
+use mathlib.Core.Path.{_≡_, refl, ap, _∙_}
+use mathlib.Core.Bool.{Bool, true, false}
 use mathlib.Core.List.{List, [], _∷_}
 use Prim.Native.Nat.{ℕ, _-_}
 use lib.Dec.{eqb, ltb}
-use lib.ListN.{length, set, length-set}
+use lib.ListN.{length, length-set}
 use Rattle.fields.proofs.Picked.{picked}
 use Rattle.events.specs.declared.event.Event.{Event}
 use Rattle.bus.specs.declared.bytes.Effect.{Effect}
@@ -13,14 +13,13 @@ use Rattle.bus.specs.declared.reads.Sent.{Sent}
 use Rattle.bus.specs.declared.reads.Sent.the-variants.{Nothing, Register}
 use Rattle.bus.specs.Bytes.{heardOf}
 use Rattle.bus.specs.Reads as reads
-use Rattle.registers.specs.Seven as seven
 use Rattle.registers.specs.Fixed.{clearTimeOf}
 use Rattle.sd2068.specs.declared.clock.Clock.{Clock}
 use Rattle.sd2068.specs.declared.answers.Answered.{Answered}
-use Rattle.sd2068.specs.Power.{poweredOf, lostOf, startTime, startRam, startOf, zeroStart, Power, powerOnOf}
+use Rattle.sd2068.specs.Power.{poweredOf, lostOf, startTime, Power, powerOnOf}
 use Rattle.sd2068.specs.Pulse.{pulsesOf}
 use Rattle.sd2068.specs.Writing.{ramStoredOf, storesOf, writeOf}
-use Rattle.sd2068.specs.Transfer.{startedOf, stoppedOf, effectedBy, byteOf, renewsOf, renewedOf, sentBy, readOf}
+use Rattle.sd2068.specs.Transfer.{stoppedOf, effectedBy, byteOf, renewsOf, renewedOf, sentBy, readOf}
 use Rattle.sd2068.specs.Step.{eventOf, refusalOf, stepOf}
 use Rattle.sd2068.specs.Run.{step, after}
 use Rattle.sd2068.proofs.GroupLaws.{pulses-ram, pulses-latched}

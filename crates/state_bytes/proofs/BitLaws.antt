@@ -1,15 +1,12 @@
 -- The bits of 0Fh and 10h and their bytes are had back from each other. Assumes nothing.
-use mathlib.Core.Path.{_≡_, refl, _∙_}
-use mathlib.Core.Bool.{Bool, true, false, cond, Bool·beq}
-use Prim.Native.Nat.{ℕ, _+_, _<_}
-use lib.Dec.{T, eqb, eqb→eq}
+use mathlib.Core.Path.{_≡_, _∙_}
+use mathlib.Core.Bool.{Bool, true, Bool·beq}
+use Prim.Native.Nat.{ℕ, _<_}
+use lib.Dec.{T}
 use borrow.Author.Tests.{eqb-true}
-use Rattle.fields.proofs.Below.{agree, each}
+use Rattle.fields.proofs.Below.{agree}
 use Rattle.fields.proofs.Bits.{Test, allOf, each-bit, same}
-use Rattle.control.specs.declared.lock.Lock.{Lock}
-use Rattle.control.specs.declared.control.Control.{Control}
 use Rattle.control.specs.Control.{bitOf}
-use Rattle.control.specs.Lock.{ctr1Of, ctr2Of}
 use Rattle.registers.specs.Fixed.{keptCtr1, keptControl, keptOf, clearOf}
 use Rattle.sd2068.proofs.ListedLaws.{ctr1, ctr2}
 

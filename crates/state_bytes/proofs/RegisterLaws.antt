@@ -1,6 +1,6 @@
--- The registers stand at their addresses. Assumes nothing.
+-- The registers stand at their addresses, and the latched bytes behind them. Assumes nothing.
 use mathlib.Core.Path.{_≡_, refl}
-use Prim.Native.Nat.{ℕ, _<_}
+use Prim.Native.Nat.{ℕ, _+_, _<_}
 use lib.ListN.{getD}
 use Rattle.registers.specs.Seven.{byteAtOf}
 use Rattle.sd2068.specs.declared.clock.Clock.{Clock}
@@ -16,4 +16,11 @@ register-place c =
     also refl also refl also refl also refl also refl also refl also refl also refl
     also refl also refl also refl also refl also refl also refl also refl also refl
     also refl also refl also refl also refl also refl also refl also refl also refl)
+    .each
+
+pub latched-place : (c : Clock) (i : ℕ) → i < 7 → getD (bytesOf c) (32 + i) 0 ≡ getD (c .latched) i 0
+unfolding bytesOf
+latched-place c =
+    (none (λ (i : ℕ). getD (bytesOf c) (32 + i) 0 ≡ getD (c .latched) i 0)
+    also refl also refl also refl also refl also refl also refl also refl)
     .each

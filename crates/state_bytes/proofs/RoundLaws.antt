@@ -1,6 +1,6 @@
 -- Encoding and decoding are inverse: from a well-formed state to its bytes and back, and from bytes that are a state's to it and back. Assumes nothing.
 use mathlib.Core.Path.{_≡_, refl, sym, ap, _∙_}
-use mathlib.Core.Bool.{Bool, true, cond, _&&_}
+use mathlib.Core.Bool.{Bool, true}
 use mathlib.Core.List.{List, [], _∷_}
 use Prim.Native.Nat.{ℕ, zero, suc, _+_, _<_}
 use native.Mathlib.Nat.{le-of-suc-le-suc, not-suc-le-zero}
@@ -12,7 +12,6 @@ use Rattle.fields.proofs.FieldLaws.{and-left, and-right}
 use Rattle.control.specs.Lock.{ctr1Of, ctr2Of}
 use Rattle.registers.specs.Fixed.{keptCtr1, keptControl, keptOf, clearOf}
 use Rattle.bus.specs.declared.phase.Bus.{Bus}
-use Rattle.bus.specs.declared.phase.Phase.{Phase}
 use Rattle.bus.proofs.WellLaws as bus-laws
 use Rattle.bus.proofs.WellLaws.{shut, opened}
 use Rattle.sd2068.specs.declared.clock.Clock.{Clock}
@@ -21,7 +20,7 @@ use Rattle.sd2068.specs.WellFormed.{wellFormedOf}
 use Rattle.sd2068.proofs.WellLaws.{Well, parts}
 use Rattle.sd2068.proofs.ListedLaws.{none, _also_, ctr1, ctr1-clear}
 use Rattle.state_bytes.specs.Words.{wordOf, lowOf, secondOf}
-use Rattle.state_bytes.specs.Phases.{numberIn, markIn, ageIn, phaseOf, phaseWell}
+use Rattle.state_bytes.specs.Phases.{ageIn, phaseWell}
 use Rattle.state_bytes.specs.Decoded.{ramOf, latchedOf, clockOf, plainOf, isState}
 use Rattle.state_bytes.specs.Encoded.{bytesOf}
 use Rattle.state_bytes.specs.Shapes.{Arrays, Bytes}

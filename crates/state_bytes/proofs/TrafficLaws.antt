@@ -2,10 +2,10 @@
 use mathlib.Core.Path.{_≡_, refl, sym, ap, _∙_}
 use mathlib.Core.Bool.{Bool, true, false, cond, _&&_}
 use mathlib.Core.List.{List}
-use Prim.Native.Nat.{ℕ, _≤_, _<_}
+use Prim.Native.Nat.{ℕ, _+_, _≤_}
 use native.Mathlib.Omega.{arith}
 use lib.Dec.{ltb}
-use lib.ListN.{set}
+use lib.ListN.{getD, set}
 use borrow.Author.Tests.{le-ltb, ltb-true, ltb-false}
 use Rattle.registers.specs.Seven as seven
 use Rattle.bus.specs.declared.phase.Bus.{Bus}
@@ -19,14 +19,14 @@ use Rattle.events.specs.declared.answer.Answer.the-variants.{Byte}
 use Rattle.sd2068.specs.declared.clock.Clock.{Clock}
 use Rattle.sd2068.specs.declared.answers.Answered.{Answered}
 use Rattle.sd2068.specs.Clock.{withBus, withLatched}
-use Rattle.sd2068.specs.Reading.{controlAtOf, registerOf, shownOf}
+use Rattle.sd2068.specs.Reading.{registerOf, shownOf}
 use Rattle.sd2068.specs.Transfer.{startedOf, stoppedOf, latchedOf, renewsOf, renewedOf, sentBy, readOf}
-use Rattle.sd2068.proofs.ListedLaws.{none, _also_}
 use Rattle.state_bytes.specs.Decoded.{alarmOf, countdownOf, lockOf, rtcfOf, busOf, clockOf}
 use Rattle.state_bytes.specs.Encoded.{bytesOf}
 use Rattle.state_bytes.specs.Places.{timeAt}
 use Rattle.state_bytes.specs.Put.{putTime, putBus}
 use Rattle.state_bytes.specs.Traffic.{Done, done, startedIn, keepsIn, stoppedIn, latchedIn, shownIn, renewedIn, sentIn, readIn}
+use Rattle.state_bytes.proofs.RegisterLaws.{register-place, latched-place}
 
 -- an event's answer, and the bytes of the state that it leaves
 abbrev pub doneBy : Answered → Done
@@ -37,31 +37,22 @@ pub bus-put : (c : Clock) (b : Bus) → putBus (bytesOf c) b ≡ bytesOf (withBu
 unfolding bytesOf
 bus-put c b = refl
 
--- a register's byte stands at its address, and a latched one behind the registers
-module _ (c : Clock) where
-  Stands : ℕ → Type 0
-  Stands a = shownIn (bytesOf c) a ≡ shownOf c a
+-- a read shows what the state shows
+module _ (c : Clock) (a : ℕ) where
+  past : 32 ≤ a → 0xFF ≡ registerOf c a
+  unfolding registerOf
+  past h = simp (le-ltb a 0x07 (omega arith), le-ltb a 0x0E (omega arith), le-ltb a 0x14 (omega arith), le-ltb a 0x20 h)
 
-  below : (a : ℕ) → a < 32 → Stands a
-  unfolding Stands bytesOf shownOf registerOf controlAtOf seven.byteAtOf
-  below =
-      (none Stands
-      also refl also refl also refl also refl also refl also refl also refl also refl
-      also refl also refl also refl also refl also refl also refl also refl also refl
-      also refl also refl also refl also refl also refl also refl also refl also refl
-      also refl also refl also refl also refl also refl also refl also refl also refl) .each
+  shown-by :
+      (time register : Bool) → ltb a 0x07 ≡ time → ltb a 0x20 ≡ register →
+      cond time (getD (bytesOf c) (32 + a) 0) (cond register (getD (bytesOf c) a 0) 0xFF) ≡ cond time (getD (c .latched) a 0) (registerOf c a)
+  shown-by true register e f = latched-place c a (ltb-true a 0x07 e)
+  shown-by false true e f = register-place c a (ltb-true a 0x20 f)
+  shown-by false false e f = past (ltb-false a 0x20 f)
 
-  above : (a : ℕ) → 32 ≤ a → Stands a
-  unfolding Stands shownOf registerOf
-  above a h = simp (le-ltb a 0x07 (omega arith), le-ltb a 0x0E (omega arith), le-ltb a 0x14 (omega arith), le-ltb a 0x20 h)
-
-  by-test : (a : ℕ) (t : Bool) → ltb a 32 ≡ t → Stands a
-  by-test a true e = below a (ltb-true a 32 e)
-  by-test a false e = above a (ltb-false a 32 e)
-
-  pub stands : (a : ℕ) → shownIn (bytesOf c) a ≡ shownOf c a
-  unfolding Stands
-  stands a = by-test a (ltb a 32) refl
+  pub stands : shownIn (bytesOf c) a ≡ shownOf c a
+  unfolding shownOf
+  stands = shown-by (ltb a 0x07) (ltb a 0x20) refl refl
 
 module _ (s : List ℕ) (again : bytesOf (clockOf s) ≡ s) where
   pub start-left : startedIn s ≡ bytesOf (startedOf (clockOf s))

@@ -1,6 +1,6 @@
 -- A number and its bytes are had back from each other. Assumes nothing.
 use mathlib.Core.Path.{_≡_}
-use Prim.Native.Nat.{ℕ, _+_, _*_, _/_, _%_, _<_}
+use Prim.Native.Nat.{ℕ, _<_}
 use native.Mathlib.Omega.{arith}
 use Rattle.state_bytes.specs.Words.{wordOf, longOf, lowOf, secondOf, thirdOf, highOf}
 

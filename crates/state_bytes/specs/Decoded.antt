@@ -4,7 +4,6 @@ use mathlib.Core.List.{List, [], _∷_}
 use Prim.Native.Nat.{ℕ}
 use lib.Dec.{eqb}
 use lib.ListN.{getD}
-use Rattle.calendar.specs.declared.time.Time.{Time}
 use Rattle.hand.specs.declared.hand.Hand.{Hand}
 use Rattle.alarm.specs.declared.alarm.Alarm.{Alarm}
 use Rattle.countdown.specs.declared.Countdown.{Countdown}
@@ -15,28 +14,24 @@ use Rattle.bus.specs.declared.phase.Bus.{Bus}
 use Rattle.registers.specs.Fixed.{clearOf}
 use Rattle.sd2068.specs.declared.clock.Clock.{Clock}
 use Rattle.sd2068.specs.WellFormed.{wellFormedOf}
-use Rattle.state_bytes.specs.Words.{wordOf, longOf}
+use Rattle.state_bytes.specs.Places.{timeAt, wordAt, longAt}
 use Rattle.state_bytes.specs.Phases.{phaseOf, phaseWell}
-
-abbrev pub timeOf : ℕ → ℕ → ℕ → ℕ → ℕ → ℕ → ℕ → Time
-timeOf a b c d e f g =
-    record { seconds = a; minutes = b; hours = c; weekday = d; day = e; month = f; year = g }
 
 abbrev pub handOf : List ℕ → Hand
 handOf s =
     record {
-      time = timeOf (getD s 0 0) (getD s 1 0) (getD s 2 0) (getD s 3 0) (getD s 4 0) (getD s 5 0) (getD s 6 0);
-      counter = longOf (getD s 49 0) (getD s 50 0) (getD s 51 0) (getD s 52 0);
+      time = timeAt s 0;
+      counter = longAt s 49;
       trim = getD s 0x12 0;
     }
 
 abbrev pub alarmOf : List ℕ → Alarm
 alarmOf s =
     record {
-      at = timeOf (getD s 7 0) (getD s 8 0) (getD s 9 0) (getD s 10 0) (getD s 11 0) (getD s 12 0) (getD s 13 0);
+      at = timeAt s 7;
       enable = getD s 0x0E 0;
       flag = bitOf 0x20 (getD s 0x0F 0);
-      pulse = wordOf (getD s 45 0) (getD s 46 0);
+      pulse = wordAt s 45;
     }
 
 abbrev pub countdownOf : List ℕ → Countdown
@@ -44,9 +39,9 @@ countdownOf s =
     record {
       count = getD s 0x13 0;
       reload = getD s 39 0;
-      prescaler = longOf (getD s 57 0) (getD s 58 0) (getD s 59 0) (getD s 60 0);
+      prescaler = longAt s 57;
       flag = bitOf 0x10 (getD s 0x0F 0);
-      pulse = wordOf (getD s 47 0) (getD s 48 0);
+      pulse = wordAt s 47;
     }
 
 abbrev pub lockOf : List ℕ → Lock
@@ -79,13 +74,13 @@ latchedOf s =
     getD s 32 0 ∷ getD s 33 0 ∷ getD s 34 0 ∷ getD s 35 0 ∷ getD s 36 0 ∷ getD s 37 0 ∷ getD s 38 0 ∷ []
 
 abbrev pub dividerOf : List ℕ → ℕ
-dividerOf s = longOf (getD s 53 0) (getD s 54 0) (getD s 55 0) (getD s 56 0)
+dividerOf s = longAt s 53
 
 abbrev pub busOf : List ℕ → Bus
 busOf s =
     record {
       pointer = getD s 40 0;
-      phase = phaseOf (getD s 41 0) (record { age = wordOf (getD s 43 0) (getD s 44 0); marked = eqb (getD s 42 0) 1 });
+      phase = phaseOf (getD s 41 0) (record { age = wordAt s 43; marked = eqb (getD s 42 0) 1 });
     }
 
 -- the state, well formed or not
@@ -97,16 +92,16 @@ clockOf s =
       countdown = countdownOf s;
       lock = lockOf s;
       control = controlOf s;
-      rtcf = bitOf 0x01 (getD s 0x0F 0);
+      rtcf = rtcfOf s;
       ram = ramOf s;
       latched = latchedOf s;
-      divider = longOf (getD s 53 0) (getD s 54 0) (getD s 55 0) (getD s 56 0);
+      divider = dividerOf s;
       bus = busOf s;
     }
 
 -- what the state has no place for is as it is written: the fixed bits of 0Fh, and the phase
 unfoldable pub plainOf : List ℕ → Bool
-plainOf s = clearOf 0x0F (getD s 0x0F 0) && phaseWell (getD s 41 0) (getD s 42 0) (wordOf (getD s 43 0) (getD s 44 0))
+plainOf s = clearOf 0x0F (getD s 0x0F 0) && phaseWell (getD s 41 0) (getD s 42 0) (wordAt s 43)
 
 -- the bytes are those of a well-formed state
 unfoldable pub isState : List ℕ → Bool

@@ -14,35 +14,36 @@ use Rattle.control.specs.Lock.{openOf, writtenOf, ctr1Of, ctr2Of}
 use Rattle.state_bytes.specs.Decoded.{handOf, alarmOf, countdownOf, lockOf, controlOf, rtcfOf}
 use Rattle.state_bytes.specs.Put.{putLong, putCountdown}
 
--- the lock alone
-abbrev pub lockedIn : List ℕ → Lock → List ℕ
-lockedIn s lock =
-    set (set s 0x0F (ctr1Of lock (alarmOf s .flag) (countdownOf s .flag) (rtcfOf s))) 0x10 (ctr2Of lock (controlOf s))
+-- what is written over the bytes l of a state that s stands for: the lock alone
+abbrev pub lockedOver : List ℕ → List ℕ → Lock → List ℕ
+lockedOver s l lock =
+    set (set l 0x0F (ctr1Of lock (alarmOf s .flag) (countdownOf s .flag) (rtcfOf s))) 0x10 (ctr2Of lock (controlOf s))
 
 -- a byte stored at 00h to 06h: the register, and the counter of the second
-abbrev pub timeIn : List ℕ → ℕ → ℕ → List ℕ
-timeIn s a b = putLong (set s a (keptOf a b)) 49 (hand.storedOf (handOf s) a b .counter)
+abbrev pub timeOver : List ℕ → List ℕ → ℕ → ℕ → List ℕ
+timeOver s l a b = putLong (set l a (keptOf a b)) 49 (hand.storedOf (handOf s) a b .counter)
 
 -- a byte stored at 0Eh to 13h: these registers, and the rest of the countdown
-abbrev pub controlsIn : List ℕ → ℕ → ℕ → List ℕ
-controlsIn s a b =
+abbrev pub controlsOver : List ℕ → List ℕ → ℕ → ℕ → List ℕ
+controlsOver s l a b =
     let rings = alarm.storedOf (alarmOf s) a b in
     let counts = countdown.storedOf (countdownOf s) a b in
     let lock = writtenOf (lockOf s) a b in
     let controls = control.storedOf (controlOf s) a b in
-    let first = set (set s 0x0E (rings .enable)) 0x0F (ctr1Of lock (rings .flag) (counts .flag) (rtcfOf s)) in
+    let first = set (set l 0x0E (rings .enable)) 0x0F (ctr1Of lock (rings .flag) (counts .flag) (rtcfOf s)) in
     let second = set (set first 0x10 (ctr2Of lock controls)) 0x11 (controls .ctr3) in
     putCountdown (set second 0x12 (hand.storedOf (handOf s) a b .trim)) counts
 
 -- a byte stored at a register
-abbrev pub storedIn : List ℕ → ℕ → ℕ → List ℕ
-storedIn s a b =
-    cond (ltb a 0x07) (timeIn s a b)
-    (cond (ltb a 0x0E) (set s a (keptOf a b))
-    (cond (ltb a 0x14) (controlsIn s a b)
-    (set s a b)))
+abbrev pub storedOver : List ℕ → List ℕ → ℕ → ℕ → List ℕ
+storedOver s l a b =
+    cond (ltb a 0x07) (timeOver s l a b)
+    (cond (ltb a 0x0E) (set l a (keptOf a b))
+    (cond (ltb a 0x14) (controlsOver s l a b)
+    (set l a b)))
 
+-- the lock goes by the byte alone, the rest takes it if it is stored
 unfoldable pub writeIn : List ℕ → ℕ → ℕ → List ℕ
 writeIn s a b =
     let after = writtenOf (lockOf s) a b in
-    cond (openOf (lockOf s) && openOf after) (storedIn s a b) (lockedIn s after)
+    cond (openOf (lockOf s) && openOf after) (storedOver s s a b) (lockedOver s s after)

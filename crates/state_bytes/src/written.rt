@@ -13,11 +13,11 @@ use control::ctr1;
 use control::ctr2;
 use registers::kept;
 ghost use mathlib.Core.Path.{_≡_};
-ghost use Rattle.state_bytes.specs.Written.{lockedIn, timeIn, controlsIn, storedIn, writeIn};
+ghost use Rattle.state_bytes.specs.Written.{lockedOver, timeOver, controlsOver, storedOver, writeIn};
 
 // The lock alone, whose bits stand in 0Fh and 10h. (rule 7.2)
 fn put_lock(s: &mut [u8], lock: Lock)
-    ensures { λ _. ⌜ now (s .exit) ≡ lockedIn (now (s .entry)) lock ⌝ }
+    ensures { λ _. ⌜ now (s .exit) ≡ lockedOver (now (s .entry)) (now (s .entry)) lock ⌝ }
 {
     let alarm = alarm_of(s);
     let countdown = countdown_of(s);
@@ -28,8 +28,8 @@ fn put_lock(s: &mut [u8], lock: Lock)
 }
 
 // A byte stored at 00h to 06h: the second may begin anew. (rule 2.7)
-fn put_time(s: &mut [u8], a: u8, b: u8)
-    ensures { λ _. ⌜ now (s .exit) ≡ timeIn (now (s .entry)) a b ⌝ }
+fn store_time(s: &mut [u8], a: u8, b: u8)
+    ensures { λ _. ⌜ now (s .exit) ≡ timeOver (now (s .entry)) (now (s .entry)) a b ⌝ }
 {
     let hand = hand_of(s).stored(a, b);
     put_at(s, a as usize, kept(a, b));
@@ -37,8 +37,8 @@ fn put_time(s: &mut [u8], a: u8, b: u8)
 }
 
 // A byte stored at 0Eh to 13h: each group takes it. (rules 2.7 and 2.8)
-fn put_controls(s: &mut [u8], a: u8, b: u8)
-    ensures { λ _. ⌜ now (s .exit) ≡ controlsIn (now (s .entry)) a b ⌝ }
+fn store_controls(s: &mut [u8], a: u8, b: u8)
+    ensures { λ _. ⌜ now (s .exit) ≡ controlsOver (now (s .entry)) (now (s .entry)) a b ⌝ }
 {
     let hand = hand_of(s).stored(a, b);
     let alarm = alarm_of(s).stored(a, b);
@@ -56,13 +56,13 @@ fn put_controls(s: &mut [u8], a: u8, b: u8)
 }
 
 // A byte stored at a register: most keep it for themselves. (rules 2.2 and 2.7)
-fn put_stored(s: &mut [u8], a: u8, b: u8)
-    ensures { λ _. ⌜ now (s .exit) ≡ storedIn (now (s .entry)) a b ⌝ }
+fn store(s: &mut [u8], a: u8, b: u8)
+    ensures { λ _. ⌜ now (s .exit) ≡ storedOver (now (s .entry)) (now (s .entry)) a b ⌝ }
 {
     match a {
-        0x00..=0x06 => put_time(s, a, b),
+        0x00..=0x06 => store_time(s, a, b),
         0x07..=0x0D => put_at(s, a as usize, kept(a, b)),
-        0x0E..=0x13 => put_controls(s, a, b),
+        0x0E..=0x13 => store_controls(s, a, b),
         _ => put_at(s, a as usize, b),
     }
 }
@@ -74,7 +74,7 @@ pub(crate) fn write(s: &mut [u8], a: u8, b: u8)
     let before = lock_of(s);
     let after = before.written(a, b);
     if before.is_open() & after.is_open() {
-        put_stored(s, a, b);
+        store(s, a, b);
     } else {
         put_lock(s, after);
     }

@@ -3,9 +3,6 @@ use Prim.Native.Nat.{_-_, _≤_}
 use borrow.Author.Needs.{needs}
 use Rattle.date_rounds.proofs.digest_of.Statement.{statement}
 use Rattle.date_rounds.proofs.digest_of.Tie as tie
-use Rattle.date_rounds.proofs.digest_of.Reads as reads
-use Rattle.date_rounds.proofs.digest_of.Lts as lts
-use Rattle.date_rounds.proofs.Round.next.Reads as next-reads
 
 abbrev Inv-loop : tie.InvT-loop
 Inv-loop seed count round₀ i₀ round i = i ≤ count

@@ -1,5 +1,5 @@
 -- A state of another length stays; else the power-on is said. Assumes nothing.
-use mathlib.Core.Path.{_≡_, sym, ap, _∙_}
+use mathlib.Core.Path.{_∙_}
 use mathlib.Core.List.{List}
 use Prim.Native.Nat.{ℕ}
 use Rattle.sd2068_abi.proofs.AbiLaws.{put-full, power-told, power-other}

@@ -1,5 +1,5 @@
 -- A state of another length stays, and nothing is run; else the run is said. Assumes nothing.
-use mathlib.Core.Path.{_≡_, sym, ap, _∙_}
+use mathlib.Core.Path.{ap, _∙_}
 use mathlib.Core.List.{List}
 use Prim.Native.Nat.{ℕ}
 use Rattle.script.specs.declared.file.Ran.{Ran}

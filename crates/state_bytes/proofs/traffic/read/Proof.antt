@@ -15,7 +15,6 @@ use mathlib.Core.Path.{_≡_, sym, ap, _∙_}
 use borrow.Author.Needs.{needs}
 use Rattle.state_bytes.proofs.traffic.read.Statement.{statement}
 use Rattle.state_bytes.proofs.traffic.read.Tie as tie
-use Rattle.state_bytes.proofs.traffic.read.Reads as reads
 
 bus-of-requires : tie.Need-bus-of-requires
 bus-of-requires c κs = tt

@@ -1,5 +1,5 @@
 -- By whether the byte is stored. Assumes nothing.
-use Rattle.state_bytes.specs.Written.{lockedIn, storedIn, writeIn}
+use Rattle.state_bytes.specs.Written.{lockedOver, storedOver, writeIn}
 use Rattle.state_bytes.specs.Decoded.{lockOf}
 use Rattle.control.specs.Lock.{openOf, writtenOf}
 use Rattle.control.specs.declared.lock.Lock.{Lock}
@@ -23,8 +23,8 @@ is-open-requires c κs = tt
 is-open-requires-2 : tie.Need-is-open-requires-2
 is-open-requires-2 c κs = tt
 
-put-stored-requires : tie.Need-put-stored-requires
-put-stored-requires c κs = tt
+store-requires : tie.Need-store-requires
+store-requires c κs = tt
 
 put-lock-requires : tie.Need-put-lock-requires
 put-lock-requires c κs = tt
@@ -42,7 +42,7 @@ returns c =
     let after : c .before .before .before .before .before .before .before .written .result ≡ writtenOf (lockOf s) a b = c .before .before .before .before .before .before .before .written .ensures ∙ ap (λ (l : Lock). writtenOf l a b) before in
     let stores : openOf (lockOf s) && openOf (writtenOf (lockOf s) a b) ≡ true =
     sym (λ i. (c .before .before .before .before .before .before .is-open .ensures ∙ ap openOf before) i && (c .before .before .before .before .before .is-open2 .ensures ∙ ap openOf after) i) ∙ c .before .before .before .before .if1 .taken in
-    c .before .before .put-stored .ensures ∙ sym (ap (λ (t : Bool). cond t (storedIn s a b) (lockedIn s (writtenOf (lockOf s) a b))) stores)
+    c .before .before .store .ensures ∙ sym (ap (λ (t : Bool). cond t (storedOver s s a b) (lockedOver s s (writtenOf (lockOf s) a b))) stores)
 
 same-length-2 : tie.Need-same-length-2
 same-length-2 c = search needs
@@ -57,7 +57,7 @@ returns-2 c =
     let after : c .before .before .before .before .before .before .before .written .result ≡ writtenOf (lockOf s) a b = c .before .before .before .before .before .before .before .written .ensures ∙ ap (λ (l : Lock). writtenOf l a b) before in
     let stores : openOf (lockOf s) && openOf (writtenOf (lockOf s) a b) ≡ false =
     sym (λ i. (c .before .before .before .before .before .before .is-open .ensures ∙ ap openOf before) i && (c .before .before .before .before .before .is-open2 .ensures ∙ ap openOf after) i) ∙ c .before .before .before .before .if1 .left in
-    c .before .before .put-lock .ensures ∙ ap (lockedIn s) after ∙ sym (ap (λ (t : Bool). cond t (storedIn s a b) (lockedIn s (writtenOf (lockOf s) a b))) stores)
+    c .before .before .put-lock .ensures ∙ ap (lockedOver s s) after ∙ sym (ap (λ (t : Bool). cond t (storedOver s s a b) (lockedOver s s (writtenOf (lockOf s) a b))) stores)
 
 pub write-spec : {M : Type 1} → statement M
 write-spec =
@@ -67,7 +67,7 @@ write-spec =
     written-requires
     is-open-requires
     is-open-requires-2
-    put-stored-requires
+    store-requires
     put-lock-requires
     same-length
     returns

@@ -1,11 +1,11 @@
 -- By the address. Assumes nothing.
 use borrow.Author.Tests.{lt-ltb, le-ltb}
 use borrow.Author.Needs.{needs}
-use Rattle.state_bytes.proofs.written.put_stored.Statement.{statement}
-use Rattle.state_bytes.proofs.written.put_stored.Tie as tie
+use Rattle.state_bytes.proofs.written.store.Statement.{statement}
+use Rattle.state_bytes.proofs.written.store.Tie as tie
 
-put-time-requires : tie.Need-put-time-requires
-put-time-requires c κs = tt
+store-time-requires : tie.Need-store-time-requires
+store-time-requires c κs = tt
 
 kept-requires : tie.Need-kept-requires
 kept-requires c κs = tt
@@ -13,8 +13,8 @@ kept-requires c κs = tt
 put-at-requires : tie.Need-put-at-requires
 put-at-requires c κs = tt
 
-put-controls-requires : tie.Need-put-controls-requires
-put-controls-requires c κs = tt
+store-controls-requires : tie.Need-store-controls-requires
+store-controls-requires c κs = tt
 
 put-at-requires-2 : tie.Need-put-at-requires-2
 put-at-requires-2 c κs = tt
@@ -23,7 +23,7 @@ same-length : tie.Need-same-length
 same-length c = search needs
 
 returns : tie.Need-returns
-returns c = simp (c .before .before .put-time .ensures, lt-ltb _ _ (c .before .before .before .before .if1 .taken))
+returns c = simp (c .before .before .store-time .ensures, lt-ltb _ _ (c .before .before .before .before .if1 .taken))
 
 same-length-2 : tie.Need-same-length-2
 same-length-2 c = search needs
@@ -35,7 +35,7 @@ same-length-3 : tie.Need-same-length-3
 same-length-3 c = search needs
 
 returns-3 : tie.Need-returns-3
-returns-3 c = simp (c .before .before .put-controls .ensures, le-ltb _ _ (c .before .before .before .before .before .before .if1 .left), le-ltb _ _ (c .before .before .before .before .before .if2 .left), lt-ltb _ _ (c .before .before .before .before .if3 .taken))
+returns-3 c = simp (c .before .before .store-controls .ensures, le-ltb _ _ (c .before .before .before .before .before .before .if1 .left), le-ltb _ _ (c .before .before .before .before .before .if2 .left), lt-ltb _ _ (c .before .before .before .before .if3 .taken))
 
 same-length-4 : tie.Need-same-length-4
 same-length-4 c = search needs
@@ -43,14 +43,14 @@ same-length-4 c = search needs
 returns-4 : tie.Need-returns-4
 returns-4 c = simp (c .before .before .put-at2 .ensures, le-ltb _ _ (c .before .before .before .before .before .before .if1 .left), le-ltb _ _ (c .before .before .before .before .before .if2 .left), le-ltb _ _ (c .before .before .before .before .if3 .left))
 
-pub put-stored-spec : {M : Type 1} → statement M
-put-stored-spec =
+pub store-spec : {M : Type 1} → statement M
+store-spec =
     tie.close
     (tie.spec
-    put-time-requires
+    store-time-requires
     kept-requires
     put-at-requires
-    put-controls-requires
+    store-controls-requires
     put-at-requires-2
     same-length
     returns

@@ -16,8 +16,8 @@ use Prim.Native.Nat.{ℕ}
 use mathlib.Core.List.{List}
 use mathlib.Core.Path.{_≡_, ap, _∙_}
 use borrow.Author.Needs.{needs}
-use Rattle.state_bytes.proofs.written.put_controls.Statement.{statement}
-use Rattle.state_bytes.proofs.written.put_controls.Tie as tie
+use Rattle.state_bytes.proofs.written.store_controls.Statement.{statement}
+use Rattle.state_bytes.proofs.written.store_controls.Tie as tie
 
 hand-of-requires : tie.Need-hand-of-requires
 hand-of-requires c κs = tt
@@ -100,8 +100,8 @@ returns c =
     let to11 = c .before .before .before .before .before .before .before .before .before .before .put-at4 .ensures ∙ (λ i. set ((c .before .before .before .before .before .before .before .before .before .before .before .before .before .before .put-at3 .ensures ∙ (λ j. set (to0F j) 0x10 (second j))) i) 0x11 (controls i .ctr3)) in
     c .before .before .put-countdown .ensures ∙ (λ i. putCountdown ((c .before .before .before .before .before .before .put-at5 .ensures ∙ (λ j. set (to11 j) 0x12 (hands j .trim))) i) (counts i))
 
-pub put-controls-spec : {M : Type 1} → statement M
-put-controls-spec =
+pub store-controls-spec : {M : Type 1} → statement M
+store-controls-spec =
     tie.close
     (tie.spec
     hand-of-requires

@@ -1,7 +1,7 @@
 -- Each part is its function's. Assumes nothing.
 use borrow.Author.Needs.{needs}
-use Rattle.state_bytes.proofs.written.put_time.Statement.{statement}
-use Rattle.state_bytes.proofs.written.put_time.Tie as tie
+use Rattle.state_bytes.proofs.written.store_time.Statement.{statement}
+use Rattle.state_bytes.proofs.written.store_time.Tie as tie
 
 hand-of-requires : tie.Need-hand-of-requires
 hand-of-requires c κs = tt
@@ -24,8 +24,8 @@ same-length c = search needs
 returns : tie.Need-returns
 returns c = simp (c .before .before .put-long .ensures, c .before .before .before .before .before .before .put-at .ensures, c .before .before .before .before .before .before .before .kept .ensures, c .before .before .before .before .before .before .before .before .before .stored .ensures, c .before .before .before .before .before .before .before .before .before .before .hand-of .ensures)
 
-pub put-time-spec : {M : Type 1} → statement M
-put-time-spec =
+pub store-time-spec : {M : Type 1} → statement M
+store-time-spec =
     tie.close
     (tie.spec
     hand-of-requires
