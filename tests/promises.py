@@ -8,19 +8,12 @@ import re
 import sys
 from pathlib import Path
 
+from names import theorems
+
 PAGE = Path("docs/PROMISES.md")
 FILE = Path("crates/promises/proofs/Promises.antt")
 THEOREMS = re.compile(r"(?:`[a-z][a-z0-9-]*`[^`()]*)+\(`(crates/[a-z0-9_]+/proofs/\w+\.antt)`\)")
 EDITS = re.compile(r"`(crates/[a-z0-9_]+/must-fail/\w+\.edit)`")
-
-
-def theorems(file):
-    """The theorems that other files may name: what is public and has a proof, which a record's field has not."""
-    if not file.is_file():
-        return set()
-    text = file.read_text(encoding="utf-8")
-    stated = re.findall(r"^( *)(?:unfoldable )?pub ([a-z][a-z0-9-]*) :", text, re.MULTILINE)
-    return {name for indent, name in stated if re.search(r"^%s%s\b[^:\n]*=" % (indent, name), text, re.MULTILINE)}
 
 
 def named(text):

@@ -11,6 +11,11 @@ find_tools() {
         need_rt
         RATTLE_HOME=$(dirname -- "$(readlink -f -- "$(command -v rt)")")/..
     fi
+    # The words that run a program hold in every folder.
+    case $RATTLE_HOME in
+    /*) ;;
+    *) RATTLE_HOME=$PWD/$RATTLE_HOME ;;
+    esac
     tools=$RATTLE_HOME/on/$(uname -m)/toolchain
 }
 

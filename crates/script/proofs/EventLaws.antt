@@ -45,7 +45,7 @@ one-first {file} (here i h b {n = n} x) (here j k c {n = m} y) =
     let d : n ≡ m = one-fault (subst (λ (p : ℕ). FaultAt file p n) e x) y in
     λ t. foundAt (d t) (e t)))
 
-same-event :
+pub same-event :
     {k k′ b b′ l l′ h h′ : ℕ} → k ≡ k′ → b ≡ b′ → l ≡ l′ → h ≡ h′ → _≡_ {A = Event} (record { kind = k; byte = b; count = wordOf l h }) (record { kind = k′; byte = b′; count = l′ + 256 * h′ })
 same-event {l} {l′} {h} {h′} p q r s =
     let c : wordOf l h ≡ l′ + 256 * h′ = omega arith in

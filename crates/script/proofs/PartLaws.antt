@@ -1,14 +1,15 @@
 -- What a file of which the sections are right has, and what stands in a section. Assumes nothing.
-use mathlib.Core.Path.{_≡_, ap}
+use mathlib.Core.Path.{_≡_, sym, ap, ap₂, _∙_}
 use mathlib.Core.Bool.{true, _&&_}
 use mathlib.Core.List.{List}
-use Prim.Native.Nat.{ℕ, _+_, _-_, _*_, _≤_}
+use Prim.Native.Nat.{ℕ, _+_, _-_, _*_, _≤_, _<_, min}
 use native.Mathlib.Omega.{arith}
 use lib.Dec.{eqb, leb}
-use lib.ListN.{length, take, drop, length-drop}
-use lib.Seq.{length-take-le}
+use lib.ListN.{length, take, drop, length-drop, drop-of-length-le}
+use lib.Seq.{length-take-le, take-all}
 use borrow.Author.Tests.{leb-true}
 use Rattle.fields.proofs.FieldLaws.{and-left, and-right}
+use Rattle.events.proofs.Telling.{at-most, either}
 use Rattle.script.specs.declared.header.Header.{Header}
 use Rattle.script.specs.Sections.{insideOf, apartOf, sectionsOf, sectionOf}
 
@@ -41,3 +42,30 @@ pub section-length : (file : List ℕ) (at n : ℕ) → at + n ≤ length file �
 section-length file at n h =
     let d = length-drop at file in
     length-take-le n (drop at file) (omega arith)
+
+-- from a place that may be past the end, as many of n bytes as the file has
+module _ (file : List ℕ) (at n : ℕ) where
+  abbrev from : ℕ
+  from = min at (length file)
+
+  abbrev to : ℕ
+  to = min (at + n) (length file)
+
+  short : length file < at + n → take (to - from) (drop from file) ≡ sectionOf file at n
+  short lt =
+      take-all (to - from) (drop from file) (omega (arith, length-drop from file))
+      ∙ either (at-most at (length file))
+      (λ (le : at ≤ length file).
+      let place : from ≡ at = omega arith in
+      ap (λ (k : ℕ). drop k file) place)
+      (λ (past : length file < at). drop-of-length-le file {i = from} (omega arith) ∙ sym (drop-of-length-le file {i = at} (omega arith)))
+      ∙ sym (take-all n (drop at file) (omega (arith, length-drop at file)))
+
+  pub part-there : take (to - from) (drop from file) ≡ sectionOf file at n
+  part-there =
+      either (at-most (at + n) (length file))
+      (λ (le : at + n ≤ length file).
+      let size : to - from ≡ n = omega arith in
+      let place : from ≡ at = omega arith in
+      ap₂ (λ (k : ℕ) (p : ℕ). take k (drop p file)) size place)
+      short

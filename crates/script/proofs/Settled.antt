@@ -1,14 +1,21 @@
--- The public contract of this crate settles the result and the output. Assumes nothing.
-use mathlib.Core.Path.{_≡_, sym, ap, _∙_}
+-- Every public contract of this crate settles its result, and that of a run the output too. Assumes nothing.
+use mathlib.Core.Path.{_≡_, refl, sym, ap, _∙_}
 use mathlib.Core.List.{List}
 use Prim.Native.Nat.{ℕ}
 use contract.Lifetimes.{Lfts}
 use denote.Ref.{now}
 use denote.Triple.Clauses.{AtExit}
 use borrow.Fn.Kinds.{Dens, resT, endedOf}
+use Rattle.fields.proofs.Settles.{Settles, settled}
 use Rattle.events.proofs.Settled.{refusal-back, refusal-again}
+use Rattle.sd2068.specs.Step.{started}
+use Rattle.sd2068.proofs.Settled.{started-back, started-again}
 use Rattle.script.specs.declared.file.Ran.{Ran}
 use Rattle.script.specs.File.{Run, ran}
+use Rattle.script.proofs.contents.listed.Kinds as listed-kinds
+use Rattle.script.proofs.contents.listed.Reads as listed-reads
+use Rattle.script.proofs.contents.start.Kinds as start-kinds
+use Rattle.script.proofs.contents.start.Reads as start-reads
 use Rattle.script.proofs.file.run.Kinds as run-kinds
 use Rattle.script.proofs.file.run.Reads as run-reads
 
@@ -25,3 +32,9 @@ pub run-settles : (κs : Lfts 2) (a : Dens κs run-kinds.ps) (e f : AtExit (ende
 run-settles κs a e f x y p q =
     let same : ran x (now (e .1 .0)) ≡ ran y (now (f .1 .0)) = p ∙ sym q in
     (sym (ran-again x (now (e .1 .0))) ∙ ap ran-back same ∙ ran-again y (now (f .1 .0)), ap (λ (m : Run). m .output) same)
+
+pub listed-settles : Settles 1 listed-kinds.ps listed-kinds.r listed-reads.Post
+listed-settles κs a e f x y = settled (λ z. z) (λ z. z) (λ z. refl)
+
+pub start-settles : Settles 1 start-kinds.ps start-kinds.r start-reads.Post
+start-settles κs a e f x y = settled started started-back started-again

@@ -1,10 +1,13 @@
-// Script files: what they are refused for, and their run into a lent output. (section 9)
+// Script files: what they are refused for, what they list, and their run into a lent output. (section 9)
 mod checks;
+mod contents;
 mod event;
 mod file;
 mod header;
 mod lines;
 mod sections;
 
+pub use contents::listed;
+pub use contents::start;
 pub use file::Ran;
 pub use file::run;

@@ -40,10 +40,10 @@ stepped-again x =
       pin = level-again (x .pin) i;
     }
 
-abbrev started-back : Power → Started
+abbrev pub started-back : Power → Started
 started-back p = record { refusal = refusal-back (p .refusal); clock = p .state }
 
-started-again : (x : Started) → started-back (started x) ≡ x
+pub started-again : (x : Started) → started-back (started x) ≡ x
 started-again x = λ i. record { refusal = refusal-again (x .refusal) i; clock = x .clock }
 
 pub power-on-settles : Settles 1 power-on-kinds.ps power-on-kinds.r power-on-reads.Post

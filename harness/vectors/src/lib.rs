@@ -2,6 +2,7 @@
 
 pub mod boundary;
 pub mod chance;
+pub mod facts;
 pub mod file;
 pub mod lines;
 pub mod program;
@@ -9,3 +10,4 @@ pub mod scenarios;
 pub mod script;
 #[cfg(test)]
 mod tests;
+pub mod watch;

@@ -10,14 +10,17 @@ use vectors::scenarios::stored_items;
 
 const SD2068: &str = env!("CARGO_BIN_EXE_sd2068");
 const SCRIPT: &str = env!("CARGO_BIN_EXE_script");
+const FACTS: &str = env!("CARGO_BIN_EXE_facts");
 
 /// The stored files, and the program and the words that write each.
-const FILES: [(&str, &str, &[&str]); 7] = [
+const FILES: [(&str, &str, &[&str]); 9] = [
     ("crates/sd2068_vectors/stdin", SD2068, &["events"]),
     ("crates/sd2068_vectors/stdout", SD2068, &["lines"]),
     ("crates/script_vectors/args", SCRIPT, &["args"]),
     ("crates/script_vectors/stdout", SCRIPT, &["lines"]),
     ("crates/clock/stdin", SCRIPT, &["example", "read"]),
+    ("crates/explain/stdin", FACTS, &["script"]),
+    ("crates/explain/stdout", FACTS, &["lines"]),
     ("examples/read.script", SCRIPT, &["example", "read"]),
     ("examples/boot.script", SCRIPT, &["example", "boot"]),
 ];

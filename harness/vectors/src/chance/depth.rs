@@ -7,47 +7,21 @@ use super::draws::Draws;
 use super::files::{draw_file, pulse_count, sections};
 use crate::file::owed::run_lent;
 use crate::script::{decode_events, Event};
+use crate::watch::{watch, Step};
 use reference::registers::{
     ALARM_ENABLE, COUNTDOWN, CTR1, CTR2, CTR3, DAY, HOURS, IM, INTAF, INTDF, MONTH, SECONDS, TRIM,
     YEAR,
 };
-use reference::{length_of_second, tick_length, Answer, Chip, Phase, Pin, Reading, Stage};
+use reference::{length_of_second, tick_length, Answer, Chip, Pin, Reading};
 
-/// One event that is no pulses, or one pulse, with the chip around it.
-struct Step<'a> {
-    kind: u8,
-    answer: Answer,
-    before: &'a Chip,
-    after: &'a Chip,
-}
-
+/// What is only counted here.
 impl Step<'_> {
-    fn is_pulse(&self) -> bool {
-        self.kind == Event::PULSES
-    }
-
-    fn is_read(&self) -> bool {
-        matches!(self.kind, Event::READ_ACK | Event::READ_NAK) && self.was_in(Stage::Reading)
-    }
-
-    fn is_data(&self) -> bool {
-        self.kind == Event::BYTE && self.was_in(Stage::Writing)
-    }
-
-    fn was_in(&self, wanted: Stage) -> bool {
-        matches!(self.before.phase, Phase::Open { stage, .. } if stage == wanted)
-    }
-
     fn sets(&self, flag: u8) -> bool {
         self.after.regs[CTR1] & flag & !self.before.regs[CTR1] != 0
     }
 
     fn clears(&self, flags: u8) -> bool {
         self.before.regs[CTR1] & flags & !self.after.regs[CTR1] != 0
-    }
-
-    fn rings(&self) -> bool {
-        self.is_pulse() && self.after.alarm_pulse > self.before.alarm_pulse
     }
 
     fn rings_with(&self, bit: u8) -> bool {
@@ -58,22 +32,9 @@ impl Step<'_> {
         self.goes_on(COUNTDOWN) && tick_length(self.before.regs[CTR3]) == length
     }
 
-    /// The register changes by itself.
-    fn goes_on(&self, register: usize) -> bool {
-        self.is_pulse() && self.before.regs[register] != self.after.regs[register]
-    }
-
-    fn ends_second(&self) -> bool {
-        self.is_pulse() && self.after.second_counter == 0
-    }
-
     /// What the second's length is before the step.
     fn length(&self) -> u32 {
         length_of_second(self.before.regs[SECONDS], self.before.regs[TRIM])
-    }
-
-    fn times_out(&self) -> bool {
-        self.is_pulse() && is_open(self.before) && !is_open(self.after)
     }
 
     /// A read of the time gives what is no longer the time.
@@ -90,10 +51,6 @@ impl Step<'_> {
     fn lock_changes(&self, to_open: bool) -> bool {
         self.before.lock_open() != to_open && self.after.lock_open() == to_open
     }
-}
-
-fn is_open(chip: &Chip) -> bool {
-    chip.phase != Phase::Closed
 }
 
 /// Something that can happen in a step, by name.
@@ -120,7 +77,7 @@ const STEPS: [Happening; 32] = [
         s.is_data() && s.clears(INTAF | INTDF)
     }),
     ("flags cleared at STOP", |s| {
-        s.kind == Event::STOP && s.clears(INTAF | INTDF)
+        s.event.kind == Event::STOP && s.clears(INTAF | INTDF)
     }),
     ("seconds ended", |s| s.ends_second()),
     ("trimmed seconds ended", |s| {
@@ -147,7 +104,7 @@ const STEPS: [Happening; 32] = [
     }),
     ("locks opened", |s| s.lock_changes(true)),
     ("locks closed", |s| s.lock_changes(false)),
-    ("power losses", |s| s.kind == Event::POWER_LOSS),
+    ("power losses", |s| s.event.kind == Event::POWER_LOSS),
 ];
 
 /// Something that a line can show, by name.
@@ -213,25 +170,12 @@ impl Depth {
         self.ended_open += u64::from(chip.lock_open());
     }
 
-    /// Pulses are taken one by one.
     fn watch_event(&mut self, chip: &mut Chip, event: Event) {
-        let Event { kind, byte, count } = event;
-        let (times, count) = match count {
-            0 => (1, 0),
-            pulses => (pulses, 1),
-        };
-        for _ in 0..times {
-            let before = chip.clone();
-            let answer = chip.step(kind, byte, count).expect("a judged event");
-            if kind != Event::PULSES || is_seen(&before, chip) {
-                self.watch_step(&Step {
-                    kind,
-                    answer,
-                    before: &before,
-                    after: chip,
-                });
+        watch(chip, event, |step| {
+            if !step.is_pulse() || is_seen(step) {
+                self.watch_step(step);
             }
-        }
+        });
     }
 
     fn watch_step(&mut self, step: &Step) {
@@ -242,8 +186,8 @@ impl Depth {
 }
 
 /// Most pulses only count; the others change a register or the bus.
-fn is_seen(before: &Chip, after: &Chip) -> bool {
-    before.regs != after.regs || is_open(before) != is_open(after)
+fn is_seen(step: &Step) -> bool {
+    step.before.regs != step.after.regs || step.times_out()
 }
 
 /// Showing.

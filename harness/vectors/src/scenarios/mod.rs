@@ -4,6 +4,7 @@ mod alarm;
 mod bus;
 mod countdown;
 mod example;
+pub mod explained;
 mod frequency;
 mod lock;
 mod power;

@@ -1,0 +1,3 @@
+pub mod DeedLaws
+pub mod MomentLaws
+pub mod Settled

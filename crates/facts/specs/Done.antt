@@ -1,0 +1,79 @@
+-- What each deed says: of the state before the event, of its answer, and of the state that it leaves. (rules 11.1 to 11.5)
+use mathlib.Core.Path.{_≡_}
+use mathlib.Core.Bool.{Bool, true, false}
+use Prim.Native.Nat.{ℕ, _≤_, _<_}
+use lib.ListN.{getD}
+use Rattle.registers.specs.Seven.{bytesOf}
+use Rattle.control.specs.Lock.{writtenOf}
+use Rattle.bus.specs.declared.phase.Mode.{Mode}
+use Rattle.bus.specs.declared.phase.Mode.the-variants.{Address, Pointer, Writing, Reading, Deaf}
+use Rattle.bus.specs.declared.phase.Transfer.{Transfer}
+use Rattle.bus.specs.declared.phase.Phase.{Phase}
+use Rattle.bus.specs.declared.phase.Phase.the-variants as phase
+use Rattle.bus.specs.Phase.{nextOf, closedBus}
+use Rattle.bus.specs.Reads.{movedOf}
+use Rattle.events.specs.declared.answer.Answer.{Answer}
+use Rattle.events.specs.declared.answer.Answer.the-variants.{Ack, Nak, Byte}
+use Rattle.sd2068.specs.declared.clock.Clock.{Clock}
+use Rattle.sd2068.specs.declared.answers.Answered.{Answered}
+use Rattle.sd2068.specs.Clock.{withAlarm, withCountdown, withLock, withLatched, withBus}
+use Rattle.sd2068.specs.Controls.{arstOf}
+use Rattle.sd2068.specs.Power.{lostOf}
+use Rattle.sd2068.specs.Pulse.{pulsesOf}
+use Rattle.sd2068.specs.Reading.{registerOf}
+use Rattle.sd2068.specs.Step.{quietOf}
+use Rattle.sd2068.specs.Transfer.{alarmKept, countdownKept}
+use Rattle.sd2068.specs.Writing.{storesOf, writtenBy}
+use Rattle.facts.specs.declared.deeds.Deed.{Deed}
+use Rattle.facts.specs.declared.deeds.Deed.the-variants as deed
+
+-- an answer and the state beside it
+abbrev pub answering : Answer → Clock → Answered
+answering a c = record { clock = c; answer = a }
+
+-- the state with the transfer led on: the pointer, and what it awaits or does
+abbrev pub led : Clock → ℕ → Mode → Transfer → Clock
+led c p m t = withBus c (record { pointer = p; phase = phase.Open m t })
+
+-- the state with both flags kept, or cleared
+abbrev pub flagsKept : Bool → Clock → Clock
+flagsKept keep c = withCountdown (withAlarm c (alarmKept keep (c .alarm))) (countdownKept keep (c .countdown))
+
+-- a master's byte, and a read, is awaited
+abbrev pub hears : Phase → Bool
+hears phase.Closed = false
+hears (phase.Open Address t) = true
+hears (phase.Open Pointer t) = true
+hears (phase.Open Writing t) = true
+hears (phase.Open Reading t) = false
+hears (phase.Open Deaf t) = false
+
+abbrev pub reads : Phase → Bool
+reads phase.Closed = false
+reads (phase.Open Address t) = false
+reads (phase.Open Pointer t) = false
+reads (phase.Open Writing t) = false
+reads (phase.Open Reading t) = true
+reads (phase.Open Deaf t) = false
+
+-- an event of byte b or n pulses that is not refused: its deed on a state, and what it answers and leaves
+pub data Done (c : Clock) (b n : ℕ) : Deed → Answered → Type 0 where
+  opened : c .bus .phase ≡ phase.Closed → Done c b n deed.Opened (quietOf (led c (c .bus .pointer) Address (record { age = 0; marked = false })))
+  repeated : {m : Mode} {t : Transfer} → c .bus .phase ≡ phase.Open m t → Done c b n deed.Repeated (quietOf (led c (c .bus .pointer) Address t))
+  idle : c .bus .phase ≡ phase.Closed → Done c b n deed.Idle (quietOf (withBus c closedBus))
+  closed : {m : Mode} {t : Transfer} → c .bus .phase ≡ phase.Open m t → Done c b n deed.Closed (quietOf (withBus c closedBus))
+  cleared : {m : Mode} {t : Transfer} → c .bus .phase ≡ phase.Open m t → t .marked ≡ true → arstOf (c .control .ctr3) ≡ true → Done c b n deed.Cleared (quietOf (withBus (flagsKept false c) closedBus))
+  toWrite : {t : Transfer} → c .bus .phase ≡ phase.Open Address t → b ≡ 0x64 → Done c b n deed.ToWrite (answering Ack (led c (c .bus .pointer) Pointer t))
+  toRead : {t : Transfer} → c .bus .phase ≡ phase.Open Address t → b ≡ 0x65 → Done c b n deed.ToRead (answering Ack (led (withLatched c (bytesOf (c .hand .time))) (c .bus .pointer) Reading t))
+  elsewhere : {t : Transfer} → c .bus .phase ≡ phase.Open Address t → (b ≡ 0x64 → ⊥) → (b ≡ 0x65 → ⊥) → Done c b n deed.Elsewhere (answering Nak (led c (c .bus .pointer) Deaf t))
+  pointed : {t : Transfer} → c .bus .phase ≡ phase.Open Pointer t → b < 0x20 → Done c b n (deed.Pointed b) (answering Ack (led c b Writing t))
+  beyond : {t : Transfer} → c .bus .phase ≡ phase.Open Pointer t → 0x20 ≤ b → Done c b n deed.Beyond (answering Nak (led c (c .bus .pointer) Deaf t))
+  stored : {t : Transfer} → c .bus .phase ≡ phase.Open Writing t → storesOf c (c .bus .pointer) b ≡ true → Done c b n (deed.Stored (c .bus .pointer)) (answering Ack (led (writtenBy true c (c .bus .pointer) b) (nextOf (c .bus .pointer)) Writing t))
+  lost : {t : Transfer} → c .bus .phase ≡ phase.Open Writing t → storesOf c (c .bus .pointer) b ≡ false → Done c b n (deed.Lost (c .bus .pointer)) (answering Ack (led (withLock c (writtenOf (c .lock) (c .bus .pointer) b)) (nextOf (c .bus .pointer)) Writing t))
+  unheard : hears (c .bus .phase) ≡ false → Done c b n deed.Unheard (answering Nak c)
+  latched : {t : Transfer} (ack : Bool) → c .bus .phase ≡ phase.Open Reading t → c .bus .pointer < 0x07 → Done c b n (deed.Latched (c .bus .pointer)) (answering (Byte (getD (c .latched) (c .bus .pointer) 0)) (withBus c (movedOf (c .bus .pointer) t ack)))
+  sent : {t : Transfer} (ack : Bool) → c .bus .phase ≡ phase.Open Reading t → 0x07 ≤ c .bus .pointer → (nextOf (c .bus .pointer) ≡ 0x00 → ⊥) → Done c b n (deed.Sent (c .bus .pointer)) (answering (Byte (registerOf c (c .bus .pointer))) (withBus c (movedOf (c .bus .pointer) t ack)))
+  renewed : {t : Transfer} (ack : Bool) → c .bus .phase ≡ phase.Open Reading t → 0x07 ≤ c .bus .pointer → nextOf (c .bus .pointer) ≡ 0x00 → Done c b n (deed.Renewed (c .bus .pointer)) (answering (Byte (registerOf c (c .bus .pointer))) (withBus (withLatched c (bytesOf (c .hand .time))) (movedOf (c .bus .pointer) t ack)))
+  silent : reads (c .bus .phase) ≡ false → Done c b n deed.Silent (answering (Byte 0xFF) c)
+  passed : Done c b n deed.Passed (quietOf (pulsesOf c n))
+  powerLost : Done c b n deed.PowerLost (quietOf (lostOf c))

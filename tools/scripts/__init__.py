@@ -1,0 +1,1 @@
+"""What ./clock and tools/script are made of."""
