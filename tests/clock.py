@@ -360,9 +360,12 @@ def try_building(tries):
     os.utime(clone.folder / "crates/clock/src/main.rt", (time.time() + 1,) * 2)
     tries.same("a source that is newer", clone.run(EXAMPLE), (0, b"built\n", BUILDS))
     tries.same("built twice", clone.calls(), ["clock"] * 2)
-    clone.put("bin/rt", "exit 1")
+    clone.put("bin/rt", "echo 'rt: how far'\necho 'what is wrong'\nexit 1")
     os.utime(clone.folder / "crates/clock/src/main.rt", (time.time() + 2,) * 2)
-    tries.same("a proof that fails", clone.run(EXAMPLE), (2, b"", BUILDS + b"clock: rt check clock failed\n"))
+    log = clone.folder / "target" / "clock.log"
+    says = BUILDS + f"rt: how far\nclock: rt check clock failed: {log} has what it said\n".encode()
+    tries.same("a proof that fails", clone.run(EXAMPLE), (2, b"", says))
+    tries.same("its log", log.read_text(), "rt: how far\nwhat is wrong\n")
 
 
 def try_two_builds(tries):
@@ -371,6 +374,8 @@ def try_two_builds(tries):
         print("tests/clock.py: two builds at a time are not tried: flock is missing")
         return
     clone = cloned(clock="cat >/dev/null; echo built")
+    # Long enough for the other one to begin.
+    clone.put("bin/rt", clone.RT.replace("sleep 0.5", "sleep 3"))
     both = [begun(EXAMPLE, **clone.options) for _ in range(2)]
     left = [ended(process) for process in both]
     tries.same("two at a time", [(status, out) for status, out, _ in left], [(0, b"built\n")] * 2)

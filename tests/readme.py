@@ -2,6 +2,7 @@
 
 import os
 import re
+import shutil
 import subprocess
 import sys
 import tempfile
@@ -41,8 +42,9 @@ def fault(page, commands, output, folder):
 def main():
     with tempfile.TemporaryDirectory() as folder:
         # What the commands write stays in this folder, which has all that they read.
-        for entry in os.listdir("."):
+        for entry in set(os.listdir(".")) - {"examples"}:
             os.symlink(Path(entry).resolve(), Path(folder) / entry)
+        shutil.copytree("examples", Path(folder) / "examples")
         blocks = [(page, *block) for page in PAGES for block in owed(page)]
         faults = [said for said in (fault(*block, folder) for block in blocks) if said]
     for said in faults:

@@ -6,7 +6,7 @@ A run is a Start, what power-on leaves, and then an Event for each event of the 
 import re
 from typing import List, NamedTuple, Optional
 
-START, STOP, BYTE, READ_ACK, READ_NAK, PULSES, POWER_LOSS = range(7)
+from scripts.files import BYTE, POWER_LOSS, PULSES, READ_ACK, READ_NAK, START, STOP
 
 # Which kinds of event have a deed, and whether it concerns a register.
 DEEDS = {

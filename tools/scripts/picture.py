@@ -9,7 +9,7 @@ import re
 from xml.sax.saxutils import escape
 
 from scripts import registers, words
-from scripts.facts import BYTE, POWER_LOSS, PULSES, READ_ACK, READ_NAK, START, STOP
+from scripts.files import BYTE, POWER_LOSS, PULSES, READ_ACK, READ_NAK, START, STOP
 
 WIDTH, LEFT, RIGHT = 1180, 74, 1166
 TOP, PITCH = 134, 250

@@ -3,7 +3,7 @@
 from datetime import datetime, timedelta
 
 from scripts import registers
-from scripts.facts import BYTE, POWER_LOSS, PULSES, READ_NAK, START, STOP
+from scripts.files import BYTE, POWER_LOSS, PULSES, READ_NAK, START, STOP
 
 EPOCH = datetime(2000, 1, 1)
 # So many pulses are told one by one, and so many readings in the summary.

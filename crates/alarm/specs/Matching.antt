@@ -1,4 +1,4 @@
--- Which fields of the alarm match a time. (rules 5.2 to 5.4)
+-- Which fields of the alarm match a time. (rules 2.3 and 5.2 to 5.4)
 use mathlib.Core.Bool.{Bool, false, cond, _&&_, _||_, not}
 use Prim.Native.Nat.{ℕ, _/_, _%_, _^_}
 use lib.Dec.{eqb, ltb}

@@ -1,4 +1,4 @@
-// Which fields of the alarm match a time. (rules 5.2 to 5.4)
+// Which fields of the alarm match a time. (rules 2.3 and 5.2 to 5.4)
 use calendar::Time;
 ghost use mathlib.Core.Path.{_≡_};
 ghost use Rattle.alarm.specs.Matching.{weekdayIn, matchesOf};

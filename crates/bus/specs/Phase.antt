@@ -1,4 +1,4 @@
--- The phase of the bus, and what time, START and STOP do to it. (rules 6.1, 6.2, 6.10 to 6.12 and 8.2)
+-- The phase of the bus, and what time, START and STOP do to it. (rules 6.1, 6.2, 6.5, 6.7, 6.10 to 6.12 and 8.2)
 use mathlib.Core.Bool.{Bool, false, cond, _&&_}
 use Prim.Native.Nat.{ℕ, _+_}
 use lib.Dec.{ltb, leb}

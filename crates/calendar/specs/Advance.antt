@@ -1,4 +1,4 @@
--- One second on. (rule 3.17)
+-- One second on. (rules 3.7 and 3.17)
 use mathlib.Core.Bool.{Bool, cond}
 use Rattle.fields.specs.declared.times.TimeOfDay.{TimeOfDay}
 use Rattle.fields.specs.Times.{nextTimeOf, midnightOf}

@@ -1,4 +1,4 @@
-// The weekday. (rule 3.7)
+// The weekday. (rules 3.7 and 3.16)
 ghost use mathlib.Core.Path.{_≡_};
 ghost use Rattle.calendar.specs.Weekdays.{nextWeekdayOf, weekdayOnOf};
 

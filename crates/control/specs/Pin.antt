@@ -1,4 +1,4 @@
--- The levels of the pin. (rules 5.12 to 5.14)
+-- The levels of the pin. (rules 5.12 to 5.14 and 8.1)
 use mathlib.Core.Bool.{Bool, cond, _&&_}
 use Prim.Native.Nat.{ℕ, _/_, _%_}
 use lib.Dec.{eqb, ltb}

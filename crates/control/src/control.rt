@@ -1,4 +1,4 @@
-// What 10h and 11h set beside the lock. (rules 2.5, 2.6 and 8.2)
+// What 10h and 11h set beside the lock. (rules 2.5 to 2.7 and 8.2)
 use registers::clear;
 use registers::kept;
 ghost use mathlib.Core.Path.{_≡_};

@@ -1,4 +1,4 @@
-// The levels of the pin. (rules 5.12 to 5.14)
+// The levels of the pin. (rules 5.12 to 5.14 and 8.1)
 ghost use mathlib.Core.Path.{_≡_};
 ghost use Rattle.control.specs.Pin.{letterOf, drivenOf, bellOf, lowHalfOf, outputOf, frequencyOf};
 

@@ -1,4 +1,4 @@
-// Dates and their day numbers. (rules 3.10 to 3.13)
+// Dates and their day numbers. (rules 3.3 and 3.10 to 3.13)
 use crate::months::last_day;
 use crate::table::first_day;
 use crate::table::month_of;

@@ -1,6 +1,7 @@
 -- What each deed says: of the state before the event, of its answer, and of the state that it leaves. (rules 11.1 to 11.5)
 use mathlib.Core.Path.{_≡_}
 use mathlib.Core.Bool.{Bool, true, false}
+use mathlib.Core.List.{List}
 use Prim.Native.Nat.{ℕ, _≤_, _<_}
 use lib.ListN.{getD}
 use Rattle.registers.specs.Seven.{bytesOf}
@@ -56,24 +57,38 @@ reads (phase.Open Writing t) = false
 reads (phase.Open Reading t) = true
 reads (phase.Open Deaf t) = false
 
+-- no transfer is open; one is, and awaits or does this
+abbrev pub Shut : Clock → Type 0
+Shut c = c .bus .phase ≡ phase.Closed
+
+abbrev pub In : Clock → Mode → Transfer → Type 0
+In c m t = c .bus .phase ≡ phase.Open m t
+
+-- the pointer, and the seven bytes of the time as it stands
+abbrev pub at : Clock → ℕ
+at c = c .bus .pointer
+
+abbrev pub live : Clock → List ℕ
+live c = bytesOf (c .hand .time)
+
 -- an event of byte b or n pulses that is not refused: its deed on a state, and what it answers and leaves
 pub data Done (c : Clock) (b n : ℕ) : Deed → Answered → Type 0 where
-  opened : c .bus .phase ≡ phase.Closed → Done c b n deed.Opened (quietOf (led c (c .bus .pointer) Address (record { age = 0; marked = false })))
-  repeated : {m : Mode} {t : Transfer} → c .bus .phase ≡ phase.Open m t → Done c b n deed.Repeated (quietOf (led c (c .bus .pointer) Address t))
-  idle : c .bus .phase ≡ phase.Closed → Done c b n deed.Idle (quietOf (withBus c closedBus))
-  closed : {m : Mode} {t : Transfer} → c .bus .phase ≡ phase.Open m t → Done c b n deed.Closed (quietOf (withBus c closedBus))
-  cleared : {m : Mode} {t : Transfer} → c .bus .phase ≡ phase.Open m t → t .marked ≡ true → arstOf (c .control .ctr3) ≡ true → Done c b n deed.Cleared (quietOf (withBus (flagsKept false c) closedBus))
-  toWrite : {t : Transfer} → c .bus .phase ≡ phase.Open Address t → b ≡ 0x64 → Done c b n deed.ToWrite (answering Ack (led c (c .bus .pointer) Pointer t))
-  toRead : {t : Transfer} → c .bus .phase ≡ phase.Open Address t → b ≡ 0x65 → Done c b n deed.ToRead (answering Ack (led (withLatched c (bytesOf (c .hand .time))) (c .bus .pointer) Reading t))
-  elsewhere : {t : Transfer} → c .bus .phase ≡ phase.Open Address t → (b ≡ 0x64 → ⊥) → (b ≡ 0x65 → ⊥) → Done c b n deed.Elsewhere (answering Nak (led c (c .bus .pointer) Deaf t))
-  pointed : {t : Transfer} → c .bus .phase ≡ phase.Open Pointer t → b < 0x20 → Done c b n (deed.Pointed b) (answering Ack (led c b Writing t))
-  beyond : {t : Transfer} → c .bus .phase ≡ phase.Open Pointer t → 0x20 ≤ b → Done c b n deed.Beyond (answering Nak (led c (c .bus .pointer) Deaf t))
-  stored : {t : Transfer} → c .bus .phase ≡ phase.Open Writing t → storesOf c (c .bus .pointer) b ≡ true → Done c b n (deed.Stored (c .bus .pointer)) (answering Ack (led (writtenBy true c (c .bus .pointer) b) (nextOf (c .bus .pointer)) Writing t))
-  lost : {t : Transfer} → c .bus .phase ≡ phase.Open Writing t → storesOf c (c .bus .pointer) b ≡ false → Done c b n (deed.Lost (c .bus .pointer)) (answering Ack (led (withLock c (writtenOf (c .lock) (c .bus .pointer) b)) (nextOf (c .bus .pointer)) Writing t))
+  opened : Shut c → Done c b n deed.Opened (quietOf (led c (at c) Address (record { age = 0; marked = false })))
+  repeated : {m : Mode} {t : Transfer} → In c m t → Done c b n deed.Repeated (quietOf (led c (at c) Address t))
+  idle : Shut c → Done c b n deed.Idle (quietOf (withBus c closedBus))
+  closed : {m : Mode} {t : Transfer} → In c m t → Done c b n deed.Closed (quietOf (withBus c closedBus))
+  cleared : {m : Mode} {t : Transfer} → In c m t → t .marked ≡ true → arstOf (c .control .ctr3) ≡ true → Done c b n deed.Cleared (quietOf (withBus (flagsKept false c) closedBus))
+  toWrite : {t : Transfer} → In c Address t → b ≡ 0x64 → Done c b n deed.ToWrite (answering Ack (led c (at c) Pointer t))
+  toRead : {t : Transfer} → In c Address t → b ≡ 0x65 → Done c b n deed.ToRead (answering Ack (led (withLatched c (live c)) (at c) Reading t))
+  elsewhere : {t : Transfer} → In c Address t → (b ≡ 0x64 → ⊥) → (b ≡ 0x65 → ⊥) → Done c b n deed.Elsewhere (answering Nak (led c (at c) Deaf t))
+  pointed : {t : Transfer} → In c Pointer t → b < 0x20 → Done c b n (deed.Pointed b) (answering Ack (led c b Writing t))
+  beyond : {t : Transfer} → In c Pointer t → 0x20 ≤ b → Done c b n deed.Beyond (answering Nak (led c (at c) Deaf t))
+  stored : {t : Transfer} → In c Writing t → storesOf c (at c) b ≡ true → Done c b n (deed.Stored (at c)) (answering Ack (led (writtenBy true c (at c) b) (nextOf (at c)) Writing t))
+  lost : {t : Transfer} → In c Writing t → storesOf c (at c) b ≡ false → Done c b n (deed.Lost (at c)) (answering Ack (led (withLock c (writtenOf (c .lock) (at c) b)) (nextOf (at c)) Writing t))
   unheard : hears (c .bus .phase) ≡ false → Done c b n deed.Unheard (answering Nak c)
-  latched : {t : Transfer} (ack : Bool) → c .bus .phase ≡ phase.Open Reading t → c .bus .pointer < 0x07 → Done c b n (deed.Latched (c .bus .pointer)) (answering (Byte (getD (c .latched) (c .bus .pointer) 0)) (withBus c (movedOf (c .bus .pointer) t ack)))
-  sent : {t : Transfer} (ack : Bool) → c .bus .phase ≡ phase.Open Reading t → 0x07 ≤ c .bus .pointer → (nextOf (c .bus .pointer) ≡ 0x00 → ⊥) → Done c b n (deed.Sent (c .bus .pointer)) (answering (Byte (registerOf c (c .bus .pointer))) (withBus c (movedOf (c .bus .pointer) t ack)))
-  renewed : {t : Transfer} (ack : Bool) → c .bus .phase ≡ phase.Open Reading t → 0x07 ≤ c .bus .pointer → nextOf (c .bus .pointer) ≡ 0x00 → Done c b n (deed.Renewed (c .bus .pointer)) (answering (Byte (registerOf c (c .bus .pointer))) (withBus (withLatched c (bytesOf (c .hand .time))) (movedOf (c .bus .pointer) t ack)))
+  latched : {t : Transfer} (ack : Bool) → In c Reading t → at c < 0x07 → Done c b n (deed.Latched (at c)) (answering (Byte (getD (c .latched) (at c) 0)) (withBus c (movedOf (at c) t ack)))
+  sent : {t : Transfer} (ack : Bool) → In c Reading t → 0x07 ≤ at c → (nextOf (at c) ≡ 0x00 → ⊥) → Done c b n (deed.Sent (at c)) (answering (Byte (registerOf c (at c))) (withBus c (movedOf (at c) t ack)))
+  renewed : {t : Transfer} (ack : Bool) → In c Reading t → 0x07 ≤ at c → nextOf (at c) ≡ 0x00 → Done c b n (deed.Renewed (at c)) (answering (Byte (registerOf c (at c))) (withBus (withLatched c (live c)) (movedOf (at c) t ack)))
   silent : reads (c .bus .phase) ≡ false → Done c b n deed.Silent (answering (Byte 0xFF) c)
   passed : Done c b n deed.Passed (quietOf (pulsesOf c n))
   powerLost : Done c b n deed.PowerLost (quietOf (lostOf c))

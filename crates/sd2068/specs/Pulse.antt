@@ -1,4 +1,4 @@
--- One pulse: six stages, each on the state that the one before it left; and many. (rules 4.5 to 4.7)
+-- One pulse: six stages, each on the state that the one before it left; and many. (rules 4.1, 4.5 to 4.7, 5.1, 5.6, 5.7 and 6.12)
 use mathlib.Core.Bool.{_&&_}
 use Prim.Native.Nat.{ℕ, _+_, _%_}
 use lib.Dec.{eqb}

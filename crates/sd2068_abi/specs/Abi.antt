@@ -1,4 +1,4 @@
--- What each function of the boundary tells, and what it leaves in the bytes that it is lent. (rules 10.3 to 10.8)
+-- What each function of the boundary tells, and what it leaves in the bytes that it is lent. (rules 10.1 and 10.3 to 10.8)
 use mathlib.Core.Bool.{Bool, cond, _&&_}
 use mathlib.Core.List.{List, [], _∷_}
 use Prim.Native.Nat.{ℕ}

@@ -1,4 +1,4 @@
--- The phase of the bus by its number, the mark and the age. (rule 10.2)
+-- The phase of the bus by its number, the mark and the age. (rules 6.1 and 10.2)
 use mathlib.Core.Bool.{Bool, cond, _&&_}
 use Prim.Native.Nat.{ℕ}
 use lib.Dec.{eqb, ltb}
