@@ -20,7 +20,7 @@ from typing import NamedTuple
 ROOT = Path(__file__).resolve().parent.parent
 sys.path.insert(0, str(ROOT / "tools"))
 
-from scripts import programs
+from scripts import programs, text
 
 MODEL = ROOT / "harness" / "target" / "release"
 SEED = 2068
@@ -67,6 +67,15 @@ def drawn(folder):
         x = draw.randrange(2**32)
         path = Path(folder) / f"random file {x}"
         path.write_bytes(model("random", "file", str(x)))
+        yield path
+
+
+def examples(folder):
+    """The example scripts, those in words assembled."""
+    yield from sorted((ROOT / "examples").glob("*.script"))
+    for words in sorted((ROOT / "examples").glob("*.text")):
+        path = Path(folder) / words.name
+        path.write_bytes(text.assembled(words.read_bytes()))
         yield path
 
 
@@ -117,7 +126,7 @@ def main():
         with tempfile.TemporaryDirectory() as folder:
             groups = {
                 "stored files": sorted((ROOT / "crates" / "script_vectors" / "data").iterdir()),
-                "examples": sorted((ROOT / "examples").glob("*.script")),
+                "examples": examples(folder),
                 "random files": drawn(folder),
             }
             return 0 if all([compared(what, paths) for what, paths in groups.items()]) else 1

@@ -1,4 +1,4 @@
-"""The commands of README and docs/SCRIPTS.md print what stands behind them there, and docs/boot.svg is what README says."""
+"""The commands of README and docs/SCRIPTS.md print what stands behind them there, and the picture is what README says."""
 
 import os
 import re
