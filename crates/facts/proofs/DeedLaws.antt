@@ -1,18 +1,16 @@
 -- Each deed says what the step does: its case is the step's case. Assumes nothing.
-use mathlib.Core.Path.{_≡_, refl, sym, ap, subst}
+use mathlib.Core.Path.{_≡_, refl}
 use mathlib.Core.Bool.{Bool, true, false, cond, _&&_, not}
 use Prim.Native.Nat.{ℕ, _+_, _<_}
 use native.Mathlib.Omega.{arith}
 use lib.Dec.{eqb, ltb}
 use borrow.Author.Tests.{eqb-true, eqb-false, ltb-true, ltb-false, lt-ltb, ne-eqb}
 use Rattle.fields.proofs.FieldLaws.{and-left, and-right}
-use Rattle.registers.specs.Seven.{bytesOf}
 use Rattle.bus.specs.declared.phase.Mode.{Mode}
 use Rattle.bus.specs.declared.phase.Mode.the-variants.{Address, Pointer, Writing, Reading, Deaf}
 use Rattle.bus.specs.declared.phase.Transfer.{Transfer}
 use Rattle.bus.specs.declared.phase.Phase.{Phase}
 use Rattle.bus.specs.declared.phase.Phase.the-variants as phase
-use Rattle.bus.specs.declared.phase.Bus.{Bus}
 use Rattle.bus.specs.declared.bytes.Heard.{Heard}
 use Rattle.bus.specs.Phase.{nextOf, closedBus}
 use Rattle.bus.specs.Bytes.{addressedOf, pointedOf, heardOf}
@@ -21,13 +19,13 @@ use Rattle.bus.specs.Reads.{movedOf}
 use Rattle.events.specs.declared.answer.Answer.the-variants.{Ack, Byte}
 use Rattle.sd2068.specs.declared.clock.Clock.{Clock}
 use Rattle.sd2068.specs.declared.answers.Answered.{Answered}
-use Rattle.sd2068.specs.Clock.{withBus, withLatched}
+use Rattle.sd2068.specs.Clock.{withBus}
 use Rattle.sd2068.specs.Controls.{arstOf}
 use Rattle.sd2068.specs.Power.{lostOf}
 use Rattle.sd2068.specs.Pulse.{pulsesOf}
-use Rattle.sd2068.specs.Reading.{registerOf, shownOf}
-use Rattle.sd2068.specs.Step.{Told, toldOf, quietOf, eventOf, refusalOf, stepOf}
-use Rattle.sd2068.specs.Transfer.{startedOf, stoppedOf, acknowledged, effectedBy, byteOf, renewedOf, readOf}
+use Rattle.sd2068.specs.Reading.{shownOf}
+use Rattle.sd2068.specs.Step.{toldOf, quietOf, eventOf, refusalOf, stepOf}
+use Rattle.sd2068.specs.Transfer.{startedOf, clearsOf, stoppedOf, acknowledged, effectedBy, byteOf, renewedOf, readOf}
 use Rattle.sd2068.specs.Writing.{storesOf, writtenBy, writeOf}
 use Rattle.facts.specs.declared.deeds.Deed.{Deed}
 use Rattle.facts.specs.declared.deeds.Deed.the-variants as deed
@@ -53,7 +51,7 @@ module _ (b n : ℕ) where
   stop-by c {t = t} true o e = cleared o (and-right (arstOf (c .control .ctr3)) (t .marked) e) (and-left (arstOf (c .control .ctr3)) (t .marked) e)
   stop-by c false o e = closed o
 
-  stop-done : (c : Clock) (p : ℕ) (f : Phase) → let d = withBus c (record { pointer = p; phase = f }) in Done d b n (stopDeed f (arstOf (c .control .ctr3))) (quietOf (stoppedOf d))
+  stop-done : (c : Clock) (p : ℕ) (f : Phase) → let d = withBus c (record { pointer = p; phase = f }) in Done d b n (stopDeed f (clearsOf d)) (quietOf (stoppedOf d))
   unfolding stoppedOf
   stop-done c p phase.Closed = idle-by (withBus c (record { pointer = p; phase = phase.Closed })) (arstOf (c .control .ctr3)) refl
   stop-done c p (phase.Open m t) = stop-by (withBus c (record { pointer = p; phase = phase.Open m t })) (arstOf (c .control .ctr3) && t .marked) refl refl
@@ -75,7 +73,7 @@ module _ (b n : ℕ) where
   data-done c true o e = stored o e
   data-done c false o e = lost o e
 
-  byte-done : (c : Clock) (p : ℕ) (f : Phase) → let d = withBus c (record { pointer = p; phase = f }) in Done d b n (byteDeed (d .bus) (c .lock) b) (byteOf d b)
+  byte-done : (c : Clock) (p : ℕ) (f : Phase) → let d = withBus c (record { pointer = p; phase = f }) in Done d b n (byteDeed d b) (byteOf d b)
   unfolding byteOf heardOf writeOf
   byte-done c p phase.Closed = unheard refl
   byte-done c p (phase.Open Address t) = address-done (led c p Address t) (eqb b 0x64) (eqb b 0x65) refl refl refl
@@ -106,8 +104,8 @@ module _ (b n : ℕ) where
   abbrev deedBy : Clock → Bool → Bool → Bool → Bool → Bool → Bool → Deed
   deedBy c k0 k1 k2 k3 k4 k5 =
       cond k0 (startDeed (c .bus .phase))
-      (cond k1 (stopDeed (c .bus .phase) (arstOf (c .control .ctr3)))
-      (cond k2 (byteDeed (c .bus) (c .lock) b)
+      (cond k1 (stopDeed (c .bus .phase) (clearsOf c))
+      (cond k2 (byteDeed c b)
       (cond k3 (readDeed (c .bus)) (cond k4 (readDeed (c .bus)) (cond k5 deed.Passed deed.PowerLost)))))
 
   abbrev eventBy : Clock → Bool → Bool → Bool → Bool → Bool → Bool → Answered

@@ -1,26 +1,22 @@
 -- What is told of a pulse from the states on both sides of it is what its stages did. Assumes nothing.
-use mathlib.Core.Path.{_≡_, refl, sym, ap, _∙_}
+use mathlib.Core.Path.{_≡_, refl, ap, _∙_}
 use mathlib.Core.Bool.{Bool, true, false, cond, _&&_, not}
 use Prim.Native.Nat.{ℕ, zero, suc, _+_, _-_, _≤_}
 use native.Mathlib.Omega.{arith}
 use lib.Dec.{eqb, ltb}
 use borrow.Author.Tests.{ne-eqb}
 use Rattle.calendar.specs.Repeat.{times}
-use Rattle.hand.specs.Hand.{endsOf, tickedOf}
+use Rattle.hand.specs.Hand.{tickedOf}
 use Rattle.hand.proofs.SecondLaws.{counter-tells}
 use Rattle.alarm.specs.Alarm as alarm
 use Rattle.countdown.specs.Countdown as countdown
-use Rattle.bus.specs.declared.phase.Mode.{Mode}
-use Rattle.bus.specs.declared.phase.Transfer.{Transfer}
 use Rattle.bus.specs.declared.phase.Phase.{Phase}
 use Rattle.bus.specs.declared.phase.Phase.the-variants.{Closed, Open}
-use Rattle.bus.specs.declared.phase.Bus.{Bus}
-use Rattle.bus.specs.Phase.{agedOf, olderIn, olderOf, closedBus}
+use Rattle.bus.specs.Phase.{olderIn, closedBus}
 use Rattle.sd2068.specs.declared.clock.Clock.{Clock}
-use Rattle.sd2068.specs.Step.{Told, toldOf, stepOf, eventOf}
+use Rattle.sd2068.specs.Step.{Told, stepOf, eventOf}
 use Rattle.sd2068.specs.Pulse.{pulseOf, pulsesOf}
 use Rattle.sd2068.proofs.WellLaws.{Well, pulses-well, step-taken}
-use Rattle.facts.specs.declared.moments.Moment.{Moment}
 use Rattle.facts.specs.Moments.{openOf, momentOf, endedOf, rangOf, zeroedOf, timedOutOf, pulseMoment}
 
 -- a pin pulse is whole only where it has just begun

@@ -1,5 +1,5 @@
 -- What an event does to a state, told from the state before it. (rules 11.1 to 11.5)
-use mathlib.Core.Bool.{Bool, cond, _&&_}
+use mathlib.Core.Bool.{Bool, cond}
 use Prim.Native.Nat.{ℕ}
 use lib.Dec.{eqb, ltb}
 use Rattle.bus.specs.declared.phase.Mode.{Mode}
@@ -8,11 +8,10 @@ use Rattle.bus.specs.declared.phase.Phase.{Phase}
 use Rattle.bus.specs.declared.phase.Phase.the-variants as phase
 use Rattle.bus.specs.declared.phase.Bus.{Bus}
 use Rattle.bus.specs.Phase.{nextOf}
-use Rattle.control.specs.declared.lock.Lock.{Lock}
-use Rattle.control.specs.Lock.{openOf, writtenOf}
 use Rattle.sd2068.specs.declared.clock.Clock.{Clock}
-use Rattle.sd2068.specs.Controls.{arstOf}
 use Rattle.sd2068.specs.Step.{refusalOf}
+use Rattle.sd2068.specs.Transfer.{clearsOf}
+use Rattle.sd2068.specs.Writing.{storesOf}
 use Rattle.facts.specs.declared.deeds.Deed.{Deed}
 use Rattle.facts.specs.declared.deeds.Deed.the-variants as deed
 
@@ -21,10 +20,10 @@ abbrev pub startDeed : Phase → Deed
 startDeed phase.Closed = deed.Opened
 startDeed (phase.Open m t) = deed.Repeated
 
--- STOP ends an open transfer, and under ARST clears the flags if 0Fh was read in it
+-- STOP ends an open transfer, and may clear the flags
 abbrev pub stopDeed : Phase → Bool → Deed
-stopDeed phase.Closed arst = deed.Idle
-stopDeed (phase.Open m t) arst = cond (arst && t .marked) deed.Cleared deed.Closed
+stopDeed phase.Closed clears = deed.Idle
+stopDeed (phase.Open m t) clears = cond clears deed.Cleared deed.Closed
 
 -- an address byte
 abbrev pub addressDeed : ℕ → Deed
@@ -34,24 +33,24 @@ addressDeed b = cond (eqb b 0x64) deed.ToWrite (cond (eqb b 0x65) deed.ToRead de
 abbrev pub pointerDeed : ℕ → Deed
 pointerDeed b = cond (ltb b 0x20) (deed.Pointed b) deed.Beyond
 
--- a data byte is stored if the lock is open on both sides of it, and else lost
-abbrev pub dataDeed : Lock → ℕ → ℕ → Deed
-dataDeed l a b = cond (openOf l && openOf (writtenOf l a b)) (deed.Stored a) (deed.Lost a)
+-- a data byte, at the pointer
+abbrev pub dataDeed : Clock → ℕ → Deed
+dataDeed c b = cond (storesOf c (c .bus .pointer) b) (deed.Stored (c .bus .pointer)) (deed.Lost (c .bus .pointer))
 
 -- a byte in an open transfer, by what it awaits
-abbrev pub heardDeed : Mode → ℕ → Lock → ℕ → Deed
-heardDeed Address p l b = addressDeed b
-heardDeed Pointer p l b = pointerDeed b
-heardDeed Writing p l b = dataDeed l p b
-heardDeed Reading p l b = deed.Unheard
-heardDeed Deaf p l b = deed.Unheard
+abbrev pub heardDeed : Mode → Clock → ℕ → Deed
+heardDeed Address c b = addressDeed b
+heardDeed Pointer c b = pointerDeed b
+heardDeed Writing c b = dataDeed c b
+heardDeed Reading c b = deed.Unheard
+heardDeed Deaf c b = deed.Unheard
 
-abbrev pub byteIn : Phase → ℕ → Lock → ℕ → Deed
-byteIn phase.Closed p l b = deed.Unheard
-byteIn (phase.Open m t) p l b = heardDeed m p l b
+abbrev pub byteIn : Phase → Clock → ℕ → Deed
+byteIn phase.Closed c b = deed.Unheard
+byteIn (phase.Open m t) c b = heardDeed m c b
 
-abbrev pub byteDeed : Bus → Lock → ℕ → Deed
-byteDeed bus l b = byteIn (bus .phase) (bus .pointer) l b
+abbrev pub byteDeed : Clock → ℕ → Deed
+byteDeed c b = byteIn (c .bus .phase) c b
 
 -- a register that is sent: the time from the latch; after 1Fh the time is latched anew
 abbrev pub registerDeed : ℕ → Deed
@@ -76,8 +75,8 @@ readDeed bus = readIn (bus .phase) (bus .pointer)
 unfoldable pub eventDeed : Clock → ℕ → ℕ → Deed
 eventDeed c kind b =
     cond (eqb kind 0) (startDeed (c .bus .phase))
-    (cond (eqb kind 1) (stopDeed (c .bus .phase) (arstOf (c .control .ctr3)))
-    (cond (eqb kind 2) (byteDeed (c .bus) (c .lock) b)
+    (cond (eqb kind 1) (stopDeed (c .bus .phase) (clearsOf c))
+    (cond (eqb kind 2) (byteDeed c b)
     (cond (eqb kind 3) (readDeed (c .bus))
     (cond (eqb kind 4) (readDeed (c .bus))
     (cond (eqb kind 5) deed.Passed deed.PowerLost)))))

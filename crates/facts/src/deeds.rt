@@ -3,7 +3,6 @@ use bus::Bus;
 use bus::Mode;
 use bus::Phase;
 use bus::next;
-use control::Lock;
 use events::fault;
 use sd2068::Clock;
 ghost use mathlib.Core.Path.{_≡_};
@@ -44,18 +43,12 @@ fn start_deed(phase: Phase) -> Deed
 }
 
 // STOP: is a transfer open, and do the flags clear? (rules 6.10 and 6.11)
-fn stop_deed(phase: Phase, arst: bool) -> Deed
-    ensures { λ r. ⌜ r ≡ stopDeed phase arst ⌝ }
+fn stop_deed(phase: Phase, clears: bool) -> Deed
+    ensures { λ r. ⌜ r ≡ stopDeed phase clears ⌝ }
 {
     match phase {
         Phase::Closed => Deed::Idle,
-        Phase::Open(_, transfer) => {
-            if arst & transfer.marked {
-                Deed::Cleared
-            } else {
-                Deed::Closed
-            }
-        }
+        Phase::Open(_, _) => { if clears { Deed::Cleared } else { Deed::Closed } }
     }
 }
 
@@ -80,12 +73,12 @@ fn pointer_deed(b: u8) -> Deed
     }
 }
 
-// A data byte: is the lock open on both sides of it? (rule 7.2)
-fn data_deed(lock: Lock, a: u8, b: u8) -> Deed
-    ensures { λ r. ⌜ r ≡ dataDeed lock a b ⌝ }
+// A data byte. (rule 7.2)
+fn data_deed(c: Clock, b: u8) -> Deed
+    ensures { λ r. ⌜ r ≡ dataDeed c b ⌝ }
 {
-    let after = lock.written(a, b);
-    if lock.is_open() & after.is_open() {
+    let a = c.bus.pointer;
+    if c.stores(a, b) {
         Deed::Stored(a)
     } else {
         Deed::Lost(a)
@@ -93,26 +86,27 @@ fn data_deed(lock: Lock, a: u8, b: u8) -> Deed
 }
 
 // A byte in an open transfer. (rules 6.3 to 6.6)
-fn heard_deed(mode: Mode, pointer: u8, lock: Lock, b: u8) -> Deed
-    ensures { λ r. ⌜ r ≡ heardDeed mode pointer lock b ⌝ }
+fn heard_deed(mode: Mode, c: Clock, b: u8) -> Deed
+    ensures { λ r. ⌜ r ≡ heardDeed mode c b ⌝ }
 {
     match mode {
         Mode::Address => address_deed(b),
         Mode::Pointer => pointer_deed(b),
-        Mode::Writing => data_deed(lock, pointer, b),
+        Mode::Writing => data_deed(c, b),
         Mode::Reading => Deed::Unheard,
         Mode::Deaf => Deed::Unheard,
     }
 }
 
 // A master's byte. (rule 6.6)
-fn byte_deed(bus: Bus, lock: Lock, b: u8) -> Deed
-    ensures { λ r. ⌜ r ≡ byteDeed bus lock b ⌝ }
+fn byte_deed(c: Clock, b: u8) -> Deed
+    ensures { λ r. ⌜ r ≡ byteDeed c b ⌝ }
 {
+    let bus = c.bus;
     let phase = bus.phase;
     match phase {
         Phase::Closed => Deed::Unheard,
-        Phase::Open(mode, _) => heard_deed(mode, bus.pointer, lock, b),
+        Phase::Open(mode, _) => heard_deed(mode, c, b),
     }
 }
 
@@ -161,8 +155,8 @@ fn event_deed(c: Clock, kind: u8, b: u8) -> Deed
     let phase = bus.phase;
     match kind {
         0 => start_deed(phase),
-        1 => stop_deed(phase, c.control.ctr3 / 0x80 % 2 == 1),
-        2 => byte_deed(bus, c.lock, b),
+        1 => stop_deed(phase, c.clears()),
+        2 => byte_deed(c, b),
         3 => read_deed(bus),
         4 => read_deed(bus),
         5 => Deed::Passed,

@@ -18,6 +18,10 @@ use Rattle.sd2068.proofs.clock.Clock.pin.Kinds as pin-kinds
 use Rattle.sd2068.proofs.clock.Clock.pin.Reads as pin-reads
 use Rattle.sd2068.proofs.clock.Clock.well_formed.Kinds as well-formed-kinds
 use Rattle.sd2068.proofs.clock.Clock.well_formed.Reads as well-formed-reads
+use Rattle.sd2068.proofs.clock.Clock.stores.Kinds as stores-kinds
+use Rattle.sd2068.proofs.clock.Clock.stores.Reads as stores-reads
+use Rattle.sd2068.proofs.clock.Clock.clears.Kinds as clears-kinds
+use Rattle.sd2068.proofs.clock.Clock.clears.Reads as clears-reads
 use Rattle.sd2068.proofs.clock.Clock.step.Kinds as step-kinds
 use Rattle.sd2068.proofs.clock.Clock.step.Reads as step-reads
 
@@ -60,6 +64,12 @@ pin-settles κs a e f x y = settled letterOf level-back level-again
 
 pub well-formed-settles : Settles 0 well-formed-kinds.ps well-formed-kinds.r well-formed-reads.Post
 well-formed-settles κs a e f x y = settled (λ z. z) (λ z. z) (λ z. refl)
+
+pub stores-settles : Settles 0 stores-kinds.ps stores-kinds.r stores-reads.Post
+stores-settles κs a e f x y = settled (λ z. z) (λ z. z) (λ z. refl)
+
+pub clears-settles : Settles 0 clears-kinds.ps clears-kinds.r clears-reads.Post
+clears-settles κs a e f x y = settled (λ z. z) (λ z. z) (λ z. refl)
 
 pub step-settles : Settles 0 step-kinds.ps step-kinds.r step-reads.Post
 step-settles κs a e f x y = settled stepped stepped-back stepped-again

@@ -10,7 +10,7 @@ use bus::next;
 use events::Answer;
 use registers::bytes;
 ghost use mathlib.Core.Path.{_≡_};
-ghost use Rattle.sd2068.specs.Transfer.{startedOf, stoppedOf, latchedOf, acknowledged, effectedBy, byteOf, renewedOf, readOf};
+ghost use Rattle.sd2068.specs.Transfer.{startedOf, clearsOf, stoppedOf, latchedOf, acknowledged, effectedBy, byteOf, renewedOf, readOf};
 
 // How a byte is acknowledged. (rules 6.3 to 6.6)
 fn acknowledge(ack: bool) -> Answer
@@ -28,11 +28,18 @@ impl Clock {
         self
     }
 
+    // Whether a STOP would clear the flags: under ARST, if 0Fh was read in the transfer. (rule 6.11)
+    pub fn clears(self) -> bool
+        ensures { λ r. ⌜ r ≡ clearsOf self ⌝ }
+    {
+        arst(self.control.ctr3) & self.bus.marked()
+    }
+
     // STOP: under ARST a transfer that read 0Fh clears both flags. (rules 6.10 and 6.11)
     pub(crate) fn stopped(mut self) -> Clock
         ensures { λ r. ⌜ r ≡ stoppedOf self ⌝ }
     {
-        let keep = !(arst(self.control.ctr3) & self.bus.marked());
+        let keep = !self.clears();
         let mut alarm = self.alarm;
         let mut countdown = self.countdown;
         let bus = Bus {

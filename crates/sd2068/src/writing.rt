@@ -2,7 +2,7 @@
 use crate::clock::Clock;
 ghost use mathlib.Core.Path.{_≡_};
 ghost use mathlib.Core.Bool.{true};
-ghost use Rattle.sd2068.specs.Writing.{ramStoredOf, writtenBy, writeOf};
+ghost use Rattle.sd2068.specs.Writing.{ramStoredOf, storesOf, writtenBy, writeOf};
 
 // The RAM after a byte stored at register a. (rule 2.7)
 fn ram_stored(mut ram: [u8; 12], a: u8, b: u8) -> [u8; 12]
@@ -20,17 +20,24 @@ fn ram_stored(mut ram: [u8; 12], a: u8, b: u8) -> [u8; 12]
 }
 
 impl Clock {
+    // Whether a byte for register a is stored: the lock is open before it and after it. (rule 7.2)
+    pub fn stores(self, a: u8, b: u8) -> bool
+        ensures { λ r. ⌜ r ≡ storesOf self a b ⌝ }
+    {
+        let before = self.lock;
+        let after = before.written(a, b);
+        before.is_open() & after.is_open()
+    }
+
     // A byte at register a: the lock bits go by it alone, the rest takes it if it is stored. (rule 7.2)
     pub(crate) fn write(self, a: u8, b: u8) -> Clock
         ensures { λ r. ⌜ r ≡ writeOf self a b ⌝ }
     {
-        let before = self.lock;
-        let after = before.written(a, b);
-        if before.is_open() & after.is_open() {
+        if self.stores(a, b) {
             self.stored(a, b)
         } else {
             let mut lost = self;
-            lost.lock = after;
+            lost.lock = self.lock.written(a, b);
             lost
         }
     }

@@ -8,10 +8,10 @@ use Rattle.explain.proofs.explain.Statement.{statement}
 use Rattle.explain.proofs.explain.Tie as tie
 
 run-requires : tie.Need-run-requires
-run-requires c κs = search needs
+run-requires c κs = tt
 
 number-requires : tie.Need-number-requires
-number-requires c κs = search needs
+number-requires c κs = tt
 
 cast-print-run : tie.Need-cast-print-run
 cast-print-run c =
@@ -22,28 +22,28 @@ cast-print-run c =
     record { fits = omega (arith, entry .pre) }
 
 print-run-requires : tie.Need-print-run-requires
-print-run-requires c κs = search needs
+print-run-requires c κs = tt
 
 slice-aggregate-print : tie.Need-slice-aggregate-print
 slice-aggregate-print c = search needs
 
 print-requires : tie.Need-print-requires
-print-requires c κs = search needs
+print-requires c κs = tt
 
 cast-print-decimal : tie.Need-cast-print-decimal
 cast-print-decimal c = search needs
 
 print-decimal-requires : tie.Need-print-decimal-requires
-print-decimal-requires c κs = search needs
+print-decimal-requires c κs = tt
 
 print-decimal-requires-2 : tie.Need-print-decimal-requires-2
-print-decimal-requires-2 c κs = search needs
+print-decimal-requires-2 c κs = tt
 
 slice-aggregate-print-2 : tie.Need-slice-aggregate-print-2
 slice-aggregate-print-2 c = search needs
 
 print-requires-2 : tie.Need-print-requires-2
-print-requires-2 c κs = search needs
+print-requires-2 c κs = tt
 
 same-length : tie.Need-same-length
 same-length c = search needs

@@ -10,10 +10,10 @@ enum-known-phase : tie.Need-enum-known-phase
 enum-known-phase c = search needs
 
 heard-deed-requires : tie.Need-heard-deed-requires
-heard-deed-requires c κs = search needs
+heard-deed-requires c κs = tt
 
 returns : tie.Need-returns
-returns c = search needs
+returns c = simp (c .enum-told .given .1)
 
 returns-2 : tie.Need-returns-2
 returns-2 c = simp (c .heard-deed .ensures, c .before .before .phase .given .1)

@@ -3,25 +3,24 @@ use mathlib.Core.Path.{sym, _∙_}
 use borrow.Author.Tests.{ne-eqb, not-true, not-false}
 use Rattle.sd2068.specs.Step.{refusalOf}
 use Rattle.facts.specs.Deeds.{deedOf}
-use borrow.Author.Needs.{needs}
 use Rattle.facts.proofs.deeds.deed_of.Statement.{statement}
 use Rattle.facts.proofs.deeds.deed_of.Tie as tie
 
 well-formed-requires : tie.Need-well-formed-requires
-well-formed-requires c κs = search needs
+well-formed-requires c κs = tt
 
 returns : tie.Need-returns
 unfolding deedOf refusalOf
 returns c = simp (sym (c .before .well-formed .ensures) ∙ not-true _ (c .if1 .taken))
 
 fault-requires : tie.Need-fault-requires
-fault-requires c κs = search needs
+fault-requires c κs = tt
 
 number-requires : tie.Need-number-requires
-number-requires c κs = search needs
+number-requires c κs = tt
 
 event-deed-requires : tie.Need-event-deed-requires
-event-deed-requires c κs = search needs
+event-deed-requires c κs = tt
 
 returns-2 : tie.Need-returns-2
 unfolding deedOf refusalOf

@@ -1,24 +1,26 @@
 -- Each arm is a case of the definition. Assumes nothing.
 use borrow.Author.Tests.{ne-eqb}
 use Rattle.facts.specs.Deeds.{eventDeed}
-use borrow.Author.Needs.{needs}
 use Rattle.facts.proofs.deeds.event_deed.Statement.{statement}
 use Rattle.facts.proofs.deeds.event_deed.Tie as tie
 
 start-deed-requires : tie.Need-start-deed-requires
-start-deed-requires c κs = search needs
+start-deed-requires c κs = tt
+
+clears-requires : tie.Need-clears-requires
+clears-requires c κs = tt
 
 stop-deed-requires : tie.Need-stop-deed-requires
-stop-deed-requires c κs = search needs
+stop-deed-requires c κs = tt
 
 byte-deed-requires : tie.Need-byte-deed-requires
-byte-deed-requires c κs = search needs
+byte-deed-requires c κs = tt
 
 read-deed-requires : tie.Need-read-deed-requires
-read-deed-requires c κs = search needs
+read-deed-requires c κs = tt
 
 read-deed-requires-2 : tie.Need-read-deed-requires-2
-read-deed-requires-2 c κs = search needs
+read-deed-requires-2 c κs = tt
 
 returns : tie.Need-returns
 unfolding eventDeed
@@ -26,7 +28,7 @@ returns c = simp (c .start-deed .ensures, c .before .match .keys1)
 
 returns-2 : tie.Need-returns-2
 unfolding eventDeed
-returns-2 c = simp (c .stop-deed .ensures, c .before .before .match .keys2)
+returns-2 c = simp (c .stop-deed .ensures, c .before .clears .ensures, c .before .before .match .keys2)
 
 returns-3 : tie.Need-returns-3
 unfolding eventDeed
@@ -53,6 +55,7 @@ event-deed-spec =
     tie.close
     (tie.spec
     start-deed-requires
+    clears-requires
     stop-deed-requires
     byte-deed-requires
     read-deed-requires

@@ -7,19 +7,19 @@ enum-told : tie.Need-enum-told
 enum-told c = search needs
 
 address-deed-requires : tie.Need-address-deed-requires
-address-deed-requires c κs = search needs
+address-deed-requires c κs = tt
 
 enum-told-2 : tie.Need-enum-told-2
 enum-told-2 c = search needs
 
 pointer-deed-requires : tie.Need-pointer-deed-requires
-pointer-deed-requires c κs = search needs
+pointer-deed-requires c κs = tt
 
 enum-told-3 : tie.Need-enum-told-3
 enum-told-3 c = search needs
 
 data-deed-requires : tie.Need-data-deed-requires
-data-deed-requires c κs = search needs
+data-deed-requires c κs = tt
 
 enum-told-4 : tie.Need-enum-told-4
 enum-told-4 c = search needs
@@ -37,10 +37,10 @@ returns-3 : tie.Need-returns-3
 returns-3 c = simp (c .data-deed .ensures, c .before .enum-told3 .given .1)
 
 returns-4 : tie.Need-returns-4
-returns-4 c = search needs
+returns-4 c = simp (c .enum-told4 .given .1)
 
 returns-5 : tie.Need-returns-5
-returns-5 c = search needs
+returns-5 c = simp (c .enum-told5 .given .1)
 
 pub heard-deed-spec : {M : Type 1} → statement M
 heard-deed-spec =

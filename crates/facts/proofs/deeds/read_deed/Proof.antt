@@ -10,7 +10,7 @@ enum-known-phase : tie.Need-enum-known-phase
 enum-known-phase c = search needs
 
 sent-deed-requires : tie.Need-sent-deed-requires
-sent-deed-requires c κs = search needs
+sent-deed-requires c κs = tt
 
 returns : tie.Need-returns
 returns c = search needs

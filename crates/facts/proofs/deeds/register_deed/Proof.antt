@@ -1,11 +1,10 @@
 -- The range and the next address are the definition's tests. Assumes nothing.
 use borrow.Author.Tests.{lt-ltb, le-ltb, ne-eqb}
-use borrow.Author.Needs.{needs}
 use Rattle.facts.proofs.deeds.register_deed.Statement.{statement}
 use Rattle.facts.proofs.deeds.register_deed.Tie as tie
 
 next-requires : tie.Need-next-requires
-next-requires c κs = search needs
+next-requires c κs = tt
 
 returns : tie.Need-returns
 returns c = simp (lt-ltb _ _ (c .if1 .taken))

@@ -16,7 +16,7 @@ enum-told-4 : tie.Need-enum-told-4
 enum-told-4 c = search needs
 
 register-deed-requires : tie.Need-register-deed-requires
-register-deed-requires c κs = search needs
+register-deed-requires c κs = tt
 
 enum-told-5 : tie.Need-enum-told-5
 enum-told-5 c = search needs

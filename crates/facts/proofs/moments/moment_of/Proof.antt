@@ -1,14 +1,13 @@
 -- Each field is the definition's test. Assumes nothing.
 use Rattle.facts.specs.Moments.{momentOf}
-use borrow.Author.Needs.{needs}
 use Rattle.facts.proofs.moments.moment_of.Statement.{statement}
 use Rattle.facts.proofs.moments.moment_of.Tie as tie
 
 is-open-requires : tie.Need-is-open-requires
-is-open-requires c κs = search needs
+is-open-requires c κs = tt
 
 is-open-requires-2 : tie.Need-is-open-requires-2
-is-open-requires-2 c κs = search needs
+is-open-requires-2 c κs = tt
 
 returns : tie.Need-returns
 unfolding momentOf

@@ -1,5 +1,5 @@
 -- The part is the section, as far as the file has it. Assumes nothing.
-use mathlib.Core.Path.{_≡_, sym, ap, _∙_}
+use mathlib.Core.Path.{_≡_, ap, _∙_}
 use mathlib.Core.List.{List}
 use Prim.Native.Nat.{ℕ, _+_, _-_, min}
 use native.Mathlib.Omega.{arith}
@@ -20,25 +20,25 @@ bytes file {w} l h v p q =
     (λ i. take (q i - p i) (drop (p i) file)) ∙ part-there file w 19 ∙ ap (λ (x : ℕ). take 19 (drop x file)) place
 
 byte-at-requires : tie.Need-byte-at-requires
-byte-at-requires c κs = search needs
+byte-at-requires c κs = tt
 
 byte-at-requires-2 : tie.Need-byte-at-requires-2
-byte-at-requires-2 c κs = search needs
+byte-at-requires-2 c κs = tt
 
 word-requires : tie.Need-word-requires
-word-requires c κs = search needs
+word-requires c κs = tt
 
 cast-section : tie.Need-cast-section
 cast-section c = search needs
 
 least-requires : tie.Need-least-requires
-least-requires c κs = search needs
+least-requires c κs = tt
 
 add-least : tie.Need-add-least
 add-least c = search needs
 
 least-requires-2 : tie.Need-least-requires-2
-least-requires-2 c κs = search needs
+least-requires-2 c κs = tt
 
 sub-power-on : tie.Need-sub-power-on
 sub-power-on c = search needs
@@ -50,7 +50,7 @@ part-power-on-end : tie.Need-part-power-on-end
 part-power-on-end c = search needs
 
 power-on-requires : tie.Need-power-on-requires
-power-on-requires c κs = search needs
+power-on-requires c κs = tt
 
 returns : tie.Need-returns
 returns c =

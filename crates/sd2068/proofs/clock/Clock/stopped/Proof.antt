@@ -3,15 +3,12 @@ use Rattle.sd2068.specs.Transfer.{stoppedOf}
 use Rattle.sd2068.proofs.clock.Clock.stopped.Statement.{statement}
 use Rattle.sd2068.proofs.clock.Clock.stopped.Tie as tie
 
-arst-requires : tie.Need-arst-requires
-arst-requires c κs = tt
-
-marked-requires : tie.Need-marked-requires
-marked-requires c κs = tt
+clears-requires : tie.Need-clears-requires
+clears-requires c κs = tt
 
 returns : tie.Need-returns
 unfolding stoppedOf
-returns c = simp (c .before .before .before .before .marked .ensures, c .before .before .before .before .before .arst .ensures)
+returns c = simp (c .before .before .before .before .clears .ensures)
 
 pub stopped-spec : {M : Type 1} → statement M
-stopped-spec = tie.close (tie.spec arst-requires marked-requires returns)
+stopped-spec = tie.close (tie.spec clears-requires returns)
