@@ -12,10 +12,10 @@ import tempfile
 import time
 from pathlib import Path
 
+import stored
 from clock import BUILDS, CLOCK, LINES, ROOT, TEXT, Tries, begun, cloned, ended, on_terminal, run, wait_for
 
 EXAMPLE = (ROOT / "examples" / "read.script").read_bytes()
-STORED = ROOT / "crates" / "script_vectors"
 UNDER_8 = b"refused 4: the file has under 8 bytes\n"
 
 
@@ -108,23 +108,15 @@ def try_rights(tries, folder):
 # The stored files
 
 def owed():
-    """What the program has to print for each stored file that was run with room enough (harness/README.md)."""
-    lines = {}
-    with open(STORED / "stdout", "rb") as stored:
-        for head in stored:
-            name, room = head.split()
-            refusal, count = (int(word) for word in stored.readline().split()[1::4])
-            stored.readline()
-            output = stored.read(int(room) + 9)
-            if refusal != 7:
-                lines[name.decode()] = b"refused %d\n" % refusal if refusal else output[: 5 * count]
-    return lines
+    """What the program has to print for each stored file that was run with room enough."""
+    some = [run for run in stored.runs() if run.refusal != 7]
+    return {run.name: b"refused %d\n" % run.refusal if run.refusal else run.output[: 5 * run.count] for run in some}
 
 
 def try_stored(tries, folder):
     """Some hundred scripts at once, held to the independent model."""
     lines = owed()
-    filled(folder, {f"{name}.script": (STORED / "data" / name).read_bytes() for name in lines})
+    filled(folder, {f"{name}.script": stored.data(name) for name in lines})
     refused = sum(output.startswith(b"refused") for output in lines.values())
     status, out, err = run(folder)
     tries.same("stored files", (len(lines) > 200, status, err), (True, 1, b""))

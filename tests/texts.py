@@ -17,12 +17,13 @@ import tempfile
 from pathlib import Path
 from unittest import mock
 
+import stored
+
 ROOT = Path(__file__).resolve().parent.parent
 sys.path.insert(0, str(ROOT / "tools"))
 
 from scripts import files, listing, text
 
-VECTORS = ROOT / "crates" / "script_vectors"
 EXAMPLES = ROOT / "examples"
 COMMAND = ROOT / "tools" / "script"
 SEED = 2068
@@ -316,20 +317,6 @@ def refusal(data):
         return refused.number, refused.index
 
 
-def stored_runs():
-    """The stored files, with the refusal and the index that the independent model has for a run of each."""
-    words = (VECTORS / "args").read_text().split()
-    output = (VECTORS / "stdout").read_bytes()
-    for name, room in zip(words[::2], words[1::2]):
-        head, told, _, output = output.split(b"\n", 3)
-        if head.decode() != f"{name} {room}":
-            raise ValueError(f"{name} {room} has no place in what is stored for script_vectors")
-        figures = told.split()
-        # The run's output and 8 bytes, then a newline (harness/README.md).
-        output = output[int(room) + 9 :]
-        yield name, int(figures[1]), int(figures[3])
-
-
 def round_trip(what, data):
     """An accepted file: taken apart and put together, and listed and assembled, it stays the same."""
     yield from differing(f"{what}, put together", data, tried(lambda file: files.encoded(files.decoded(file)), data))
@@ -339,14 +326,12 @@ def round_trip(what, data):
 
 
 def stored_files():
-    owed = {}
-    for name, number, index in stored_runs():
-        # 7 is about the output that is lent, and not about the file.
-        owed[name] = (number, index) if number not in (0, 7) else None
-    stored = {path.name: path.read_bytes() for path in (VECTORS / "data").iterdir()}
-    yield from differing("names of the stored files", sorted(owed), sorted(stored))
+    # 7 is about the output that is lent, and not about the file.
+    owed = {run.name: (run.refusal, run.index) if run.refusal not in (0, 7) else None for run in stored.runs()}
+    every = {path.name: path.read_bytes() for path in (stored.VECTORS / "data").iterdir()}
+    yield from differing("names of the stored files", sorted(owed), sorted(every))
     yield from differing("refusals among them", {2, 3, 4, 5, 6, 8}, {found[0] for found in owed.values() if found})
-    for name, data in stored.items():
+    for name, data in every.items():
         yield from differing(name, owed.get(name), refusal(data))
         if refusal(data) is None:
             yield from round_trip(name, data)
@@ -615,8 +600,8 @@ def main():
         for fault in part:
             print(f"texts: {fault}")
             faults += 1
-    stored = len(list((VECTORS / "data").iterdir()))
-    print(f"texts: {stored} stored and {RANDOM_FILES} random files, {RANDOM_TEXTS} random texts, {len(ERRORS)} errors")
+    many = len(list((stored.VECTORS / "data").iterdir()))
+    print(f"texts: {many} stored and {RANDOM_FILES} random files, {RANDOM_TEXTS} random texts, {len(ERRORS)} errors")
     return 1 if faults else 0
 
 

@@ -1,9 +1,11 @@
 """Facts of a run, read and put into words.
 
-The facts in tests/golden are those of the independent model, which is asked for them again here; the listings were
-checked line by line against docs/RULES.md.
+The facts in tests/golden are those of the independent model, which is asked for them again here. What each line of
+their listings must say stands below, by hand. The stored listings themselves were written by the words that are tried
+here and then read against docs/RULES.md: they tell that a wording has changed, and not that it is right.
 """
 
+import re
 import subprocess
 import sys
 from pathlib import Path
@@ -138,6 +140,50 @@ def golden():
     yield "every moment in a listing", {moment.what for event in events for moment in event.moments} == MOMENTS
 
 
+# How the words of an event must begin, by its deed (rules 11.2 to 11.5), and what moments must be named (rule 11.6).
+MEANT = {
+    "opened": "START: a transfer opens",
+    "repeated": "START: the transfer goes on",
+    "closed": "STOP: the transfer ends",
+    "cleared": "STOP: the transfer ends; 0Fh was read in it and ARST is 1, so INTAF and INTDF clear",
+    "idle": "STOP: no transfer is open",
+    "to-write": "64h: address, to write",
+    "to-read": "65h: address, to read",
+    "elsewhere": "{byte:02X}h: not the address of this chip",
+    "pointed": "{byte:02X}h: points at {at}",
+    "beyond": "{byte:02X}h: no register to point at",
+    "stored": "{byte:02X}h: stored at {at}",
+    "lost": "{byte:02X}h: lost at {at}",
+    "unheard": "{byte:02X}h: not heard",
+    "latched": "read {at} from the latch: {answer}h",
+    "sent": "read {at}: {answer}h",
+    "renewed": "read {at}: {answer}h; the pointer wraps, the time is latched anew",
+    "silent": "read: nothing is sent",
+    "passed": "{count:,} pulse",
+    "power-lost": "power loss: time and RAM stay",
+}
+NAMED = {
+    "second": r"[1-9]\d* seconds? ends?, the time is ",
+    "alarm": "the alarm rings ",
+    "zero": "the countdown reaches zero ",
+    "timeout": "the transfer times out at pulse ",
+    "pin": "the pin ",
+}
+
+
+def meant():
+    """Each line against what its deed and its moments are called, and nothing that did not happen."""
+    for name in SCRIPTS:
+        start, *events = items_of(name)
+        for event, line in zip(events, words.explained([start, *events])):
+            at = "" if event.register is None else registers.named(event.register)
+            begins = f"{event.answer} {event.pin}  " + MEANT[event.deed].format(at=at, **event._asdict())
+            yield f"{line} in {name}", line.startswith(begins)
+            happened = {moment.what for moment in event.moments}
+            told = {what for what, said in NAMED.items() if re.search(said, line)}
+            yield f"moments in: {line}", event.deed != "passed" or told == happened
+
+
 def runs():
     """Runs that no script of a reasonable length has."""
     boot = items_of("boot")
@@ -189,4 +235,4 @@ def judged(subject, parts):
 
 
 if __name__ == "__main__":
-    sys.exit(judged("words", [reading, objects, golden, runs, bytes_worded]))
+    sys.exit(judged("words", [reading, objects, golden, meant, runs, bytes_worded]))

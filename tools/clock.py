@@ -7,7 +7,8 @@ import sys
 from typing import Callable, NamedTuple
 
 from scripts import facts, files, folder, picture, programs, text, words
-from scripts.folder import Failed, Made, shown
+from scripts.folder import Failed, Made
+from scripts.outputs import shown
 
 HELP = """\
 usage: ./clock [--explain | --picture] [FILE | FOLDER]

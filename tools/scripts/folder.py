@@ -3,20 +3,16 @@
 import collections
 import contextlib
 import os
-import tempfile
 import threading
 from concurrent.futures import ThreadPoolExecutor, as_completed
 from typing import NamedTuple, Optional
 
 from scripts import files, words
+from scripts.outputs import shown, write
 
 ENDINGS = (".script", ".text")
 # Of more refused scripts than this the summary tells how many each refusal has, and not their names.
 MOST_NAMED = 20
-
-# A new file is open to whom the caller's other files are. There is no asking for the mask without setting it.
-MASK = os.umask(0o077)
-os.umask(MASK)
 
 
 class Failed(Exception):
@@ -38,29 +34,11 @@ class Result(NamedTuple):
     failure: str
 
 
-def shown(name):
-    """A file's name as a part of one line."""
-    return name if name and name.isprintable() else ascii(name)
-
-
 def scripts(folder):
     """The names of the scripts in a folder, in order. A link that leads nowhere counts, and will fail by its name."""
     names = [name for name in os.listdir(folder) if name.endswith(ENDINGS) and not name.startswith(".")]
     paths = {name: os.path.join(folder, name) for name in names}
     return sorted(name for name, path in paths.items() if os.path.isfile(path) or not os.path.exists(path))
-
-
-def write(path, output):
-    """Whole or not at all: whoever looks finds the old file or the new one."""
-    handle, draft = tempfile.mkstemp(prefix=".clock-", dir=os.path.dirname(path))
-    try:
-        with open(handle, "wb") as file:
-            os.fchmod(handle, 0o666 & ~MASK)
-            file.write(output)
-        os.replace(draft, path)
-    except BaseException:
-        os.unlink(draft)
-        raise
 
 
 def leave(path, output):
