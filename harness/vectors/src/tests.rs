@@ -2,9 +2,10 @@
 
 use crate::chance::batch::{Batch, Batches, Kind};
 use crate::chance::draws::Draws;
-use crate::chance::files::{self, draw_file, Drawn};
+use crate::chance::files::{self, draw_file};
 use crate::chance::tables::{table_bytes, BYTES, EDGES, LENGTHS, MOVES};
 use crate::file::owed::run_lent;
+use crate::file::Run;
 use crate::lines::{lines, lines_reading};
 use crate::scenarios::{stored_batches, stored_items, stored_scripts};
 use crate::script::{decode, encode, pulse_count, Item, Script};
@@ -274,7 +275,7 @@ fn refusals(runs: &[Batch]) -> [u32; 9] {
 fn pulses_of_files(x: u32, count: u32) -> u64 {
     let mut draws = Draws::from(x);
     let pulses = (0..count).map(|_| {
-        let Drawn { file, room } = draw_file(&mut draws);
+        let Run { file, room } = draw_file(&mut draws);
         match run_lent(&file, room, Reading::Right).0.refusal {
             0 => files::pulse_count(&file),
             _ => 0,

@@ -2,9 +2,10 @@
 
 use super::digest::Digest;
 use super::draws::Draws;
-use super::files::{draw_file, Drawn};
+use super::files::draw_file;
 use super::steps::draw_step;
 use crate::file::owed::run_lent;
+use crate::file::Run;
 use crate::script::Script;
 use reference::{Reading, STATE_BYTES};
 use std::thread;
@@ -123,7 +124,7 @@ impl Batch {
         self.refusals[1..].iter().sum()
     }
 
-    fn take_file(&mut self, drawn: &Drawn, reading: Reading) {
+    fn take_file(&mut self, drawn: &Run, reading: Reading) {
         let (run, output) = run_lent(&drawn.file, drawn.room, reading);
         self.digest.take_run(&run, drawn.room, &output);
         self.refusals[usize::from(run.refusal)] += 1;

@@ -2,8 +2,9 @@
 
 use super::super::digest::Digest;
 use super::super::draws::Draws;
-use super::super::files::{damage, draw_file, good_file, pulse_count, room_for, sections, Drawn};
+use super::super::files::{damage, draw_file, good_file, pulse_count, room_for, sections};
 use super::{after, drawing, Wanted};
+use crate::file::Run;
 use reference::run_file;
 
 /// The event count, events' offset, start count and start bytes' offset.
@@ -151,7 +152,7 @@ fn rooms_are_enough_but_for_one_in_eight() {
 }
 
 /// A file with these draws first, and the draws as they stand behind them.
-fn drawn(wanted: &[Wanted]) -> (Drawn, Draws) {
+fn drawn(wanted: &[Wanted]) -> (Run, Draws) {
     let draws = drawing(wanted);
     let behind = after(draws.clone(), wanted.len());
     (draw_file(&mut draws.clone()), behind)
@@ -203,7 +204,7 @@ fn files_are_the_same_elsewhere() {
     let mut draws = Draws::from(7);
     let mut digest = Digest::default();
     for _ in 0..500 {
-        let Drawn { file, room } = draw_file(&mut draws);
+        let Run { file, room } = draw_file(&mut draws);
         digest.take(file.len() as u64);
         digest.take_bytes(&file);
         digest.take(room as u64);
