@@ -50,9 +50,9 @@ fn command(program: &str, words: &[&str]) -> String {
 
 /// The first item whose output is not the stored one.
 fn first_that_differs(mut stored: &[u8]) -> Option<String> {
-    for item in stored_items() {
-        let Some(rest) = stored.strip_prefix(&lines(from_ref(&item))[..]) else {
-            return Some(item.name().to_string());
+    for (at, item) in stored_items().iter().enumerate() {
+        let Some(rest) = stored.strip_prefix(&lines(from_ref(item))[..]) else {
+            return Some(format!("item {at} {}", item.name()));
         };
         stored = rest;
     }

@@ -1,9 +1,9 @@
 //! The form of the files, their damage and their rooms.
 
-use super::super::digest::Digest;
 use super::super::draws::Draws;
 use super::super::files::{damage, draw_file, good_file, pulse_count, room_for, sections};
 use super::{after, drawing, Wanted};
+use crate::digest::Digest;
 use crate::file::Run;
 use reference::run_file;
 
@@ -197,10 +197,10 @@ fn files_lie_around_the_limit() {
     }
 }
 
-/// Lengths, bytes and rooms of 500 files, worked out by another program that
-/// was written from the same rules.
+/// Lengths, bytes and rooms of 500 files, so that a number that is written down
+/// goes on to mean the same file.
 #[test]
-fn files_are_the_same_elsewhere() {
+fn files_stay_the_same() {
     let mut draws = Draws::from(7);
     let mut digest = Digest::default();
     for _ in 0..500 {
