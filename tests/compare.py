@@ -1,4 +1,4 @@
-"""Random files or steps, drawn by the independent model and run on both sides: all that comes out is compared.
+"""Random files or steps, drawn by the independent model and run on both sides, compared byte for byte.
 
 usage: python3 tests/compare.py files|steps SEED COUNT
 

@@ -71,7 +71,7 @@ fn the_files_are_up_to_date() {
 }
 
 #[test]
-fn the_scripts_print_what_is_stored() {
+fn the_items_print_what_is_stored() {
     let path = "crates/sd2068_vectors/stdout";
     let found = fs::read(stored(path)).expect("a stored output");
     assert_eq!(first_that_differs(&found), None, "{path}");

@@ -1,4 +1,10 @@
-//! Files by chance: most are built, many of those are good.
+//! Files by chance: most are built, and most of those are good.
+//!
+//! A built file has its two sections in either order with small gaps, three to
+//! twelve moves, mostly behind one that opens the lock, and starts at a time near
+//! a roll-over. One in eight is then damaged, and one in eight is lent a byte too
+//! little. One file in sixteen is not built, so that there are headers and
+//! lengths which no damage would lead to.
 
 use super::draws::Draws;
 use super::moves::Events;
@@ -29,7 +35,8 @@ fn built(draws: &mut Draws) -> Run {
     Run { file, room }
 }
 
-/// A file that nothing is wrong with, and the count of its events.
+/// A file that nothing is wrong with, and the count of its events. Up to three
+/// bytes stand before the first section, between the two and at the end.
 pub(super) fn good_file(draws: &mut Draws) -> (Vec<u8>, usize) {
     let start_first = draws.below(2) == 0;
     let first = HEADER_BYTES + draws.below(4);
@@ -54,7 +61,7 @@ pub(super) fn good_file(draws: &mut Draws) -> (Vec<u8>, usize) {
     (file, events.count())
 }
 
-/// Mostly the lock opens first.
+/// Three to twelve, any of the table; mostly the lock opens first.
 fn moves(draws: &mut Draws, at: usize) -> Events {
     let mut events = Events::at(at);
     let count = 3 + draws.below(10);
@@ -91,7 +98,8 @@ pub(super) fn room_for(draws: &mut Draws, count: usize) -> usize {
     }
 }
 
-/// One thing goes wrong; the file may stay good all the same.
+/// The file is cut, a byte of its header becomes any or the next one up or down,
+/// or any byte becomes any; the file may stay good all the same.
 pub(super) fn damage(draws: &mut Draws, file: &mut Vec<u8>) {
     match draws.below(4) {
         0 => {
