@@ -1,21 +1,30 @@
-"""Random files or steps on the proved program and on the independent model, a digest for each batch of 1,000.
+"""Random files or steps, drawn by the independent model and run on both sides, compared byte for byte.
 
 usage: python3 tests/compare.py files|steps SEED COUNT
 
-The same SEED and COUNT give the same draws each time. Says how many were compared, or shows the first one that
+The same SEED and COUNT give the same draws each time. Says how many were compared, or names the first one that
 the two sides differ on and how to look into it; the exit status is then 1.
 """
 
 import os
+import re
 import subprocess
 import sys
+from collections import namedtuple
 from concurrent.futures import ThreadPoolExecutor
 
 ROOT = os.path.dirname(os.path.dirname(os.path.abspath(__file__)))
 TARGET = os.path.join(ROOT, "harness", "target")
 RANDOM = os.path.join(TARGET, "release", "random")
+SHOWN = os.path.relpath(RANDOM, ROOT)
 PROGRAM = [os.path.join(ROOT, "tools", "program"), "sd2068_vectors"]
 SIZE = 1000
+
+# The lines that begin so tell a refusal: no line of a state or an output does.
+REFUSED = {"files": re.compile(rb"^refusal [1-9]", re.MULTILINE), "steps": re.compile(rb"^refused ", re.MULTILINE)}
+
+# What the program printed for the batch of so many drawn from x, and its exit status.
+Batch = namedtuple("Batch", "what x size output status")
 
 
 def build():
@@ -26,78 +35,85 @@ def build():
     subprocess.run(PROGRAM, check=True, stdin=subprocess.DEVNULL)
 
 
-def owed(what, x, count, size):
-    """The independent model's lines."""
-    words = [RANDOM, what, str(x), str(count), str(size)]
-    return subprocess.run(words, check=True, capture_output=True, text=True).stdout.splitlines()
+def model(*words):
+    """What the independent model's program writes for these words."""
+    return subprocess.run([RANDOM, *map(str, words)], check=True, stdout=subprocess.PIPE).stdout
 
 
-def given(what, x, count, size):
-    """The proved program's lines."""
-    words = [RANDOM, "items", what, str(x), str(count), str(size)]
-    items = subprocess.run(words, check=True, capture_output=True).stdout
-    done = subprocess.run(PROGRAM, input=items, check=True, stdout=subprocess.PIPE)
-    return done.stdout.decode("ascii", "replace").splitlines()
+def starts(what, x, count, size):
+    """The number that each batch is drawn from."""
+    return [int(line) for line in model("starts", what, x, count, size).split()]
 
 
-def start(line):
-    """The number that a line's first file or step is drawn from."""
-    words = line.split()
-    return int(words[words.index("from") + 1])
+def given(what, x, size):
+    """A batch as the proved program runs it."""
+    done = subprocess.run(PROGRAM, input=model("items", what, x, size), stdout=subprocess.PIPE)
+    return Batch(what, x, size, done.stdout, done.returncode)
 
 
-def size_of(line):
-    return int(line.split()[1])
+def checked(what, x, size):
+    """How many of a batch are refused, and the batch if the two sides differ on it."""
+    owed = model("lines", what, x, size)
+    batch = given(what, x, size)
+    same = batch.output == owed and batch.status == 0
+    return len(REFUSED[what].findall(owed)), None if same else batch
 
 
-def first_difference(left, right):
-    """The place of the first line that one side lacks or has otherwise."""
-    for at in range(max(len(left), len(right))):
-        if left[at : at + 1] != right[at : at + 1]:
-            return at
+def checked_all(what, seed, count):
+    """How many are refused, and the first batch that the two sides differ on."""
+    size, refused = min(SIZE, count), 0
+    with ThreadPoolExecutor(os.cpu_count()) as pool:
+        try:
+            for part, differing in pool.map(lambda x: checked(what, x, size), starts(what, seed, count, size)):
+                if differing:
+                    return refused, differing
+                refused += part
+        finally:
+            # Whatever ends the loop, no batch begins behind it.
+            pool.shutdown(cancel_futures=True)
+    return refused, None
+
+
+def first_difference(batch):
+    """The place of the first one whose lines are not the next of the output, and its number; else nothing."""
+    at = 0
+    for place, x in enumerate(starts(batch.what, batch.x, batch.size, 1)):
+        owed = model("lines", batch.what, x, 1)
+        if not batch.output.startswith(owed, at):
+            return place, x
+        at += len(owed)
     return None
 
 
-def checked(what, lines):
-    """The owed lines of some batches in a row against the program's; the first owed line that differs."""
-    got = given(what, start(lines[0]), sum(map(size_of, lines)), size_of(lines[0]))
-    at = first_difference(lines, got)
-    return None if at is None else lines[min(at, len(lines) - 1)]
-
-
-def report(what, line):
-    """Which one of a batch differs, found by drawing the batch again in batches of one."""
-    differs = checked(what, owed(what, start(line), size_of(line), 1))
-    if differs is None:
-        print(f"compare: the two sides differ on the batch drawn from {start(line)}, and not one by one")
-        return
-    one, x = what[:-1], start(differs)
-    print(f"compare: the two sides differ on the {one} drawn from {x}")
-    print(f"compare: harness/target/release/random {one} {x} writes it")
-
-
-def parts(lines):
-    """The lines in parts, a few for each processor."""
-    share = max(1, len(lines) // (4 * (os.cpu_count() or 1)))
-    return [lines[at : at + share] for at in range(0, len(lines), share)]
+def report(batch):
+    """Which one of a batch differs, found by going through it one by one."""
+    what, one = batch.what, batch.what[:-1]
+    found = first_difference(batch)
+    if found:
+        place, x = found
+        print(f"compare: the two sides differ on the {one} drawn from {x}")
+        print(f"compare: {SHOWN} {one} {x} writes it, {SHOWN} lines {what} {x} 1 what is owed for it")
+        if checked(what, x, 1)[1] is None:
+            print(f"compare: alone it comes out the same; {SHOWN} items {what} {batch.x} {place + 1} ends with it")
+    else:
+        print(f"compare: the program does not end as it should behind the batch drawn from {batch.x}")
+        print(f"compare: {SHOWN} items {what} {batch.x} {batch.size} writes it")
+    if batch.status:
+        print(f"compare: the program ended with status {batch.status}")
 
 
 def compared(what, seed, count):
-    lines = owed(what, seed, count, min(SIZE, count))
-    with ThreadPoolExecutor(os.cpu_count()) as pool:
-        for differs in pool.map(lambda part: checked(what, part), parts(lines)):
-            if differs is not None:
-                pool.shutdown(cancel_futures=True)
-                report(what, differs)
-                return 1
-    refused = sum(int(line.split()[line.split().index("refused") + 1]) for line in lines)
+    refused, differing = checked_all(what, seed, count)
+    if differing:
+        report(differing)
+        return 1
     print(f"{count} {what} from {seed} compared, {refused} of them refused, no difference")
     return 0
 
 
 def asked(words):
     """What to draw, from where and how many, or nothing if the words make no sense."""
-    if len(words) != 3 or words[0] not in ("files", "steps") or not all(w.isdigit() for w in words[1:]):
+    if len(words) != 3 or words[0] not in REFUSED or not all(w.isdecimal() and w.isascii() for w in words[1:]):
         return None
     seed, count = int(words[1]), int(words[2])
     whole = 0 < count <= SIZE or count % SIZE == 0
@@ -113,8 +129,8 @@ def main(words):
     try:
         build()
         return compared(*ask)
-    except FileNotFoundError as error:
-        print(f"compare: {error.filename} is missing", file=sys.stderr)
+    except OSError as error:
+        print(f"compare: {error.filename}: {error.strerror}", file=sys.stderr)
     except subprocess.CalledProcessError as error:
         print(f"compare: {error.cmd[0]} ended with status {error.returncode}", file=sys.stderr)
     return 2

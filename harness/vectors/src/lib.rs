@@ -2,6 +2,7 @@
 
 pub mod boundary;
 pub mod chance;
+pub mod digest;
 pub mod facts;
 pub mod file;
 pub mod lines;

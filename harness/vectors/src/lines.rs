@@ -1,5 +1,7 @@
 //! The output that an input owes, line by line.
 
+use crate::file::owed::{run_lent, run_line};
+use crate::file::Run;
 use crate::script::{Event, Item, Script};
 use reference::{Answer, Chip, Reading};
 
@@ -21,7 +23,7 @@ fn item_lines(item: &Item, reading: Reading, out: &mut Vec<u8>) {
     match item {
         Item::PowerOn(script) => run(powered(script, reading, out), &script.events, out),
         Item::State(script) => run(script.chip(reading), &script.events, out),
-        Item::Random(batches) => out.extend(batches.lines(reading).bytes()),
+        Item::File(run) => file_lines(run, reading, out),
     }
 }
 
@@ -49,6 +51,15 @@ fn run(mut chip: Chip, events: &[Event], out: &mut Vec<u8>) {
     if !shown {
         state_line(&chip, out);
     }
+}
+
+/// What a run hands back, the state and the output with what stands behind it.
+fn file_lines(run: &Run, reading: Reading, out: &mut Vec<u8>) {
+    let (result, output) = run_lent(&run.file, run.room, reading);
+    out.extend(run_line(&result).bytes());
+    state_line(&result.chip, out);
+    out.extend(output);
+    out.push(b'\n');
 }
 
 fn answer_line(answer: Answer, chip: &Chip, out: &mut Vec<u8>) {

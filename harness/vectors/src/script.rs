@@ -1,8 +1,7 @@
 //! Scripts: what they start from and their events, how they are written down
 //! in the scenarios, and how they stand in an input.
 
-use crate::chance::batch::{Batches, Kind};
-use crate::chance::tables::table_bytes;
+use crate::file::Run;
 use reference::{Chip, Reading, EVENT_BYTES, START_BYTES, STATE_BYTES};
 
 #[derive(Clone, Copy, Debug, PartialEq, Eq)]
@@ -42,7 +41,7 @@ pub struct Script<const N: usize = START_BYTES> {
 pub enum Item {
     PowerOn(Script),
     State(Script<STATE_BYTES>),
-    Random(Batches),
+    File(Run),
 }
 
 /// Starting.
@@ -181,24 +180,21 @@ impl<const N: usize> Script<N> {
 }
 
 impl Item {
-    /// What the item is called; random ones by what is drawn.
+    /// What the item is called.
     pub fn name(&self) -> &str {
         match self {
             Item::PowerOn(script) => &script.name,
             Item::State(script) => &script.name,
-            Item::Random(batches) => match batches.kind {
-                Kind::Files => "random files",
-                Kind::Steps => "random steps",
-            },
+            Item::File(_) => "a script file",
         }
     }
 
-    /// The events, as far as the item has some.
+    /// A script's events; those of a file stand in its bytes.
     pub fn events(&self) -> &[Event] {
         match self {
             Item::PowerOn(script) => &script.events,
             Item::State(script) => &script.events,
-            Item::Random(_) => &[],
+            Item::File(_) => &[],
         }
     }
 }
@@ -215,17 +211,16 @@ impl From<Script<STATE_BYTES>> for Item {
     }
 }
 
-impl From<Batches> for Item {
-    fn from(batches: Batches) -> Item {
-        Item::Random(batches)
+impl From<Run> for Item {
+    fn from(run: Run) -> Item {
+        Item::File(run)
     }
 }
 
 // The byte that tells what an item is.
 const FROM_POWER_ON: u8 = 0;
 const FROM_STATE: u8 = 1;
-const RANDOM_FILES: u8 = 2;
-const RANDOM_STEPS: u8 = 3;
+const FILE: u8 = 2;
 
 /// The items as they stand in an input.
 pub fn encode(items: &[Item]) -> Vec<u8> {
@@ -234,7 +229,7 @@ pub fn encode(items: &[Item]) -> Vec<u8> {
         match item {
             Item::PowerOn(script) => encode_script(FROM_POWER_ON, script, &mut bytes),
             Item::State(script) => encode_script(FROM_STATE, script, &mut bytes),
-            Item::Random(batches) => encode_batches(batches, &mut bytes),
+            Item::File(run) => encode_run(run, &mut bytes),
         }
     }
     bytes
@@ -251,15 +246,13 @@ fn encode_script<const N: usize>(first: u8, script: &Script<N>, bytes: &mut Vec<
     }
 }
 
-fn encode_batches(row: &Batches, bytes: &mut Vec<u8>) {
-    bytes.push(match row.kind {
-        Kind::Files => RANDOM_FILES,
-        Kind::Steps => RANDOM_STEPS,
-    });
-    for number in [row.x, row.batches, row.size] {
+fn encode_run(run: &Run, bytes: &mut Vec<u8>) {
+    bytes.push(FILE);
+    for number in [run.room, run.file.len()] {
+        let number = u16::try_from(number).expect("a short file");
         bytes.extend(number.to_le_bytes());
     }
-    bytes.extend(table_bytes());
+    bytes.extend(&run.file);
 }
 
 /// The whole items of an input; one that is cut off is left out.
@@ -285,40 +278,34 @@ fn decode_one(bytes: &[u8]) -> Option<(Item, &[u8])> {
             Chip::from_form(&script.start_bytes)?;
             Some((script.into(), rest))
         }
-        RANDOM_FILES => decode_batches(Kind::Files, rest),
-        RANDOM_STEPS => decode_batches(Kind::Steps, rest),
+        FILE => {
+            let (run, rest) = decode_run(rest)?;
+            Some((run.into(), rest))
+        }
         _ => None,
     }
 }
 
 fn decode_script<const N: usize>(bytes: &[u8]) -> Option<(Script<N>, &[u8])> {
     let (start_bytes, rest) = bytes.split_first_chunk()?;
-    let (count, rest) = rest.split_first_chunk()?;
-    let size = EVENT_BYTES * usize::from(u16::from_le_bytes(*count));
-    let (events, rest) = rest.split_at_checked(size)?;
+    let (count, rest) = decode_number(rest)?;
+    let (events, rest) = rest.split_at_checked(EVENT_BYTES * count)?;
     let mut script = Script::from_bytes(*start_bytes);
     script.events = decode_events(events);
     Some((script, rest))
 }
 
-/// Nothing if the tables are not those that are drawn from here.
-fn decode_batches(kind: Kind, bytes: &[u8]) -> Option<(Item, &[u8])> {
-    let (x, rest) = decode_number(bytes)?;
-    let (batches, rest) = decode_number(rest)?;
-    let (size, rest) = decode_number(rest)?;
-    let rest = rest.strip_prefix(&table_bytes())?;
-    let row = Batches {
-        kind,
-        x,
-        batches,
-        size,
-    };
-    Some((row.into(), rest))
+fn decode_run(bytes: &[u8]) -> Option<(Run, &[u8])> {
+    let (room, rest) = decode_number(bytes)?;
+    let (length, rest) = decode_number(rest)?;
+    let (file, rest) = rest.split_at_checked(length)?;
+    let file = file.to_vec();
+    Some((Run { file, room }, rest))
 }
 
-fn decode_number(bytes: &[u8]) -> Option<(u32, &[u8])> {
+fn decode_number(bytes: &[u8]) -> Option<(usize, &[u8])> {
     let (number, rest) = bytes.split_first_chunk()?;
-    Some((u32::from_le_bytes(*number), rest))
+    Some((u16::from_le_bytes(*number).into(), rest))
 }
 
 /// Events as they stand in an input and in a file.

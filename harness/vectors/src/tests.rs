@@ -1,12 +1,10 @@
 //! Tests of the formats and of the stored items.
 
-use crate::chance::batch::{Batch, Batches, Kind};
-use crate::chance::draws::Draws;
-use crate::chance::files::{self, draw_file, Drawn};
-use crate::chance::tables::{table_bytes, BYTES, EDGES, LENGTHS, MOVES};
-use crate::file::owed::run_lent;
+use crate::digest::Digest;
+use crate::file::placed::Placed;
+use crate::file::Run;
 use crate::lines::{lines, lines_reading};
-use crate::scenarios::{stored_batches, stored_items, stored_scripts};
+use crate::scenarios::{stored_items, stored_scripts};
 use crate::script::{decode, encode, pulse_count, Item, Script};
 use reference::{Phase, Reading, Stage};
 use std::collections::{HashMap, HashSet};
@@ -89,14 +87,35 @@ fn states_are_shown_once_at_the_end() {
     assert_eq!(count(script().event(1, 1, 0)), 1);
 }
 
-/// An item that is never run, each byte of its numbers another one.
-fn random(kind: Kind) -> Item {
-    Item::Random(Batches {
-        kind,
-        x: 0x0403_0201,
-        batches: 0x0807_0605,
-        size: 0x0C0B_0A09,
-    })
+/// A run of this script from power-on as a file, with so much room.
+fn run(script: &Script, room: usize) -> Run {
+    let file = Placed::start_first(script).finish();
+    Run { file, room }
+}
+
+#[test]
+fn a_file_shows_its_run_its_state_and_its_output() {
+    let mut state = [0; 61];
+    (state[0x0F], state[41]) = (0x01, 1);
+    let state: String = state.map(|byte| format!("{byte:02X}")).concat();
+    let script = Script::from_bytes([0; 19]).start();
+    let expected = format!("refusal 0 index 0 count 1\n{state}\n-- H\n...........\n");
+    assert_eq!(text(run(&script, 8)), expected);
+}
+
+/// Nothing is written, and the state is that of zero bytes.
+#[test]
+fn a_refused_file_leaves_its_output() {
+    let good = Script::from_bytes([1; 19]).start().stop();
+    let bad = good.clone().event(9, 0, 0);
+    for (script, room, refused) in [
+        (good, 9, "refusal 7 index 0"),
+        (bad, 15, "refusal 2 index 2"),
+    ] {
+        let (zeros, dots) = (zero_state(), ".".repeat(room + 8));
+        let expected = format!("{refused} count 0\n{zeros}\n{dots}\n");
+        assert_eq!(text(run(&script, room)), expected);
+    }
 }
 
 #[test]
@@ -105,15 +124,20 @@ fn the_input_form_is_exact() {
     let mut state = [7; 61];
     state[41] = 1;
     state[42] = 0;
-    let files = random(Kind::Files);
-    let steps = random(Kind::Steps);
-    let numbers = [1, 2, 3, 4, 5, 6, 7, 8, 9, 10, 11, 12];
-    let tables = table_bytes();
+    let file = vec![11; 0x0304];
+    let empty = Run {
+        file: Vec::new(),
+        room: 0,
+    };
     let items = [
         powered.into(),
         Script::from_bytes(state).stop().into(),
-        files,
-        steps,
+        Run {
+            file: file.clone(),
+            room: 0x0506,
+        }
+        .into(),
+        empty.into(),
     ];
     let expected = [
         &[0][..],
@@ -122,12 +146,9 @@ fn the_input_form_is_exact() {
         &[1],
         &state,
         &[1, 0, 1, 0, 0, 0],
-        &[2],
-        &numbers,
-        &tables,
-        &[3],
-        &numbers,
-        &tables,
+        &[2, 6, 5, 4, 3],
+        &file,
+        &[2, 0, 0, 0, 0],
     ];
     assert_eq!(encode(&items), expected.concat());
     assert_eq!(decode(&encode(&items)), items);
@@ -147,8 +168,7 @@ fn cut_inputs_lose_their_last_item() {
     for last in [
         Script::at([0; 7]).stop().into(),
         state.into(),
-        random(Kind::Files),
-        random(Kind::Steps),
+        run(&Script::at([0; 7]).stop(), 5).into(),
     ] {
         let whole = vec![Script::from_bytes([0; 19]).start().into()];
         let with_last = [whole.clone(), vec![last]].concat();
@@ -167,71 +187,21 @@ fn what_is_no_item_ends_the_input() {
     let mut no_state = [0; 61];
     no_state[41] = 6;
     let no_state = encode(&[Script::from_bytes(no_state).into()]);
-    for end in [vec![4], vec![255], no_state] {
+    for end in [vec![3], vec![255], no_state] {
         assert_eq!(decode(&[more.clone(), end, more.clone()].concat()), whole);
     }
 }
 
-/// One other byte anywhere in the tables, and the item is none.
-#[test]
-fn other_tables_end_the_input() {
-    for kind in Kind::ALL {
-        let bytes = encode(&[random(kind)]);
-        assert_eq!(bytes.len(), 13 + 992);
-        for at in 13..bytes.len() {
-            let mut other = bytes.clone();
-            other[at] ^= 1;
-            assert_eq!(decode(&[other, bytes.clone()].concat()), []);
-        }
-    }
-}
-
-/// Bytes, moves, lengths and edges, each read back from its place.
-#[test]
-fn the_tables_stand_one_behind_the_other() {
-    let tables = table_bytes();
-    assert_eq!(tables[..384], BYTES.concat());
-    assert_eq!(tables[384..896], MOVES.concat());
-    let little = |bytes: &[u8]| bytes.iter().rev().fold(0, |n, b| n * 256 + u32::from(*b));
-    let lengths: Vec<u32> = tables[896..928].chunks(2).map(little).collect();
-    let edges: Vec<u32> = tables[928..].chunks(4).map(little).collect();
-    assert_eq!(lengths, LENGTHS.map(u32::from));
-    assert_eq!(edges, EDGES);
-}
-
-#[test]
-fn random_items_owe_a_line_for_each_batch() {
-    for kind in Kind::ALL {
-        let batches = Batches {
-            kind,
-            x: 77,
-            batches: 3,
-            size: 10,
-        };
-        let owed = text(batches);
-        assert_eq!(owed, batches.lines(Reading::Right));
-        let head = format!("{} 10 from ", kind.name());
-        assert_eq!(owed.lines().filter(|l| l.starts_with(&head)).count(), 3);
-    }
-}
-
-/// A wrong reading shows from power-on, from a state and by chance. This one
-/// turns the pin in about one file and one step of four: a hundred tell it
-/// whichever they are. The scripts have the frequency on the pin, low at once.
+/// A wrong reading shows from power-on, from a state and in a file. The scripts
+/// have the frequency on the pin, low at once.
 #[test]
 fn a_reading_goes_into_every_item() {
     let powered = Script::at([0; 7]).unlock_with(&[0xA1, 0x02]);
+    let file = run(&powered, 5 * powered.events.len());
     let state = Script::handed_in([0; 7], |chip| {
         (chip.regs[0x10], chip.regs[0x11]) = (0xA1, 0x02);
     });
-    let batches = Kind::ALL.map(|kind| Batches {
-        kind,
-        x: 1,
-        batches: 1,
-        size: 100,
-    });
-    let scripts = [powered.into(), state.start().into()];
-    for item in scripts.into_iter().chain(batches.map(Item::from)) {
+    for item in [powered.into(), state.start().into(), file.into()] {
         let items = [item];
         let wrong = lines_reading(&items, Reading::SourceBitsTurned);
         assert_ne!(wrong, lines(&items), "{items:?}");
@@ -256,53 +226,6 @@ fn the_stored_scripts_are_not_too_long() {
     assert!(pulses < 25_000_000);
 }
 
-/// What is stored of this kind, run.
-fn stored_runs(wanted: Kind) -> Vec<Batch> {
-    let rows = stored_batches().into_iter().filter_map(|item| match item {
-        Item::Random(row) if row.kind == wanted => Some(row.run(Reading::Right)),
-        _ => None,
-    });
-    rows.flatten().collect()
-}
-
-/// How many of all batches, by the number of the refusal.
-fn refusals(runs: &[Batch]) -> [u32; 9] {
-    std::array::from_fn(|number| runs.iter().map(|batch| batch.refusals[number]).sum())
-}
-
-/// The pulses of all files that run, from this number on.
-fn pulses_of_files(x: u32, count: u32) -> u64 {
-    let mut draws = Draws::from(x);
-    let pulses = (0..count).map(|_| {
-        let Drawn { file, room } = draw_file(&mut draws);
-        match run_lent(&file, room, Reading::Right).0.refusal {
-            0 => files::pulse_count(&file),
-            _ => 0,
-        }
-    });
-    pulses.sum()
-}
-
-/// The programs compared may take this long and no longer.
-#[test]
-fn the_stored_files_keep_their_bound() {
-    let runs = stored_runs(Kind::Files);
-    let pulses = pulses_of_files(runs[0].from, 20_000);
-    println!("{pulses} pulses, by refusal {:?}", refusals(&runs));
-    assert_eq!(refusals(&runs).iter().sum::<u32>(), 20_000);
-    assert!((300_000_000..=480_000_000).contains(&pulses));
-}
-
-/// About half of them run; the others show each refusal of a step.
-#[test]
-fn the_stored_steps_are_refused_for_every_reason() {
-    let [ran, one, two, three, others @ ..] = refusals(&stored_runs(Kind::Steps));
-    println!("{ran} ran, by refusal {one} {two} {three}");
-    assert_eq!(ran + one + two + three, 20_000);
-    assert_eq!(others, [0; 5]);
-    assert!(ran >= 9_000 && one >= 5_000 && two >= 300 && three >= 500);
-}
-
 #[test]
 fn each_stored_script_has_a_name_of_its_own() {
     let items = stored_scripts();
@@ -322,4 +245,25 @@ fn no_two_stored_items_have_the_same_bytes() {
             panic!("{} is {other} again", item.name());
         }
     }
+}
+
+/// They lie in the repository, and `rt ci` runs all of them.
+#[test]
+fn the_stored_input_and_output_are_small() {
+    let items = stored_items();
+    let (input, output) = (encode(&items).len(), lines(&items).len());
+    println!("{input} bytes of input, {output} of output");
+    assert!(input < 120_000 && output < 350_000);
+}
+
+/// 1, then 1000003 + 6, then 1000003 x 1000009 + 256 less 232 x 4294967291.
+#[test]
+fn a_digest_takes_figures_one_by_one() {
+    let mut digest = Digest::default();
+    assert_eq!(digest.value(), 0);
+    let values = [0, 5, 255].map(|figure| {
+        digest.take(figure);
+        digest.value()
+    });
+    assert_eq!(values, [1, 1_000_009, 3_579_588_771]);
 }

@@ -5,8 +5,8 @@
 //! from the reference and go into the same digests.
 
 use reference::{day_number, second_number, second_of_day, time_of_number, Chip, Reading};
-use vectors::chance::digest::Digest;
 use vectors::chance::draws::Draws;
+use vectors::digest::Digest;
 
 type Time = [u8; 7];
 

@@ -16,24 +16,52 @@ fn bytes(arguments: &str) -> Vec<u8> {
     output.stdout
 }
 
-fn text(arguments: &str) -> String {
-    String::from_utf8(bytes(arguments)).expect("plain text")
+fn text_of(bytes: Vec<u8>) -> String {
+    String::from_utf8(bytes).expect("plain text")
 }
 
-/// The lines owed for the items are those that are written at once.
+fn text(arguments: &str) -> String {
+    text_of(bytes(arguments))
+}
+
+/// The items that these words write.
+fn items(arguments: &str) -> Vec<Item> {
+    decode(&bytes(arguments))
+}
+
+/// What is owed for the items is what is written as owed at once.
 #[test]
 fn items_and_lines_fit() {
     for kind in ["files", "steps"] {
-        let items = decode(&bytes(&format!("items {kind} 5 60 20")));
-        let [Item::Random(batches)] = items[..] else {
-            panic!("one item of {kind}");
-        };
-        assert_eq!(batches.kind.name(), kind);
-        assert_eq!((batches.x, batches.batches, batches.size), (5, 3, 20));
-        let owed = text(&format!("{kind} 5 60 20"));
-        assert_eq!(owed.as_bytes(), lines(&items));
-        assert!(owed.starts_with(&format!("{kind} 20 from 5 refused ")));
-        assert_eq!(owed.lines().count(), 3);
+        let items = items(&format!("items {kind} 5 60"));
+        assert_eq!(items.len(), 60);
+        let is_of_kind = |item: &Item| matches!(item, Item::File(_)) == (kind == "files");
+        assert!(items.iter().all(is_of_kind));
+        assert!(bytes(&format!("lines {kind} 5 60")) == lines(&items));
+    }
+}
+
+/// Batches, each from where it starts, are the whole row.
+#[test]
+fn starts_are_where_batches_begin() {
+    for kind in ["files", "steps"] {
+        let starts = text(&format!("starts {kind} 5 60 20"));
+        let starts: Vec<&str> = starts.lines().collect();
+        assert_eq!((starts[0], starts.len()), ("5", 3));
+        let batches = starts
+            .iter()
+            .map(|x| bytes(&format!("items {kind} {x} 20")));
+        let batches: Vec<Vec<u8>> = batches.collect();
+        assert!(batches.concat() == bytes(&format!("items {kind} 5 60")));
+    }
+}
+
+#[test]
+fn none_are_none() {
+    for kind in ["files", "steps"] {
+        for words in ["starts KIND 5 0 20", "items KIND 5 0", "lines KIND 5 0"] {
+            assert_eq!(text(&words.replace("KIND", kind)), "");
+        }
     }
 }
 
@@ -46,22 +74,24 @@ fn a_file_comes_with_its_room() {
     assert!(output.stderr.starts_with(b"room "));
 }
 
-/// A batch of one step is refused if its item says so.
+/// A file and a step that are written alone are those of a row of one.
 #[test]
-fn a_step_is_an_item_to_look_at() {
-    let mut refused = 0;
+fn one_can_be_looked_at_alone() {
     for x in 0..40 {
-        let items = decode(&bytes(&format!("step {x}")));
-        let [Item::State(script)] = &items[..] else {
+        let file = random(&format!("file {x}"));
+        let room = text_of(file.stderr);
+        let [Item::File(run)] = &items(&format!("items files {x} 1"))[..] else {
+            panic!("a file");
+        };
+        assert_eq!(room, format!("room {}\n", run.room));
+        assert!(file.stdout == run.file);
+        let step = bytes(&format!("step {x}"));
+        assert_eq!(step, bytes(&format!("items steps {x} 1")));
+        let [Item::State(script)] = &decode(&step)[..] else {
             panic!("a script from a state");
         };
         assert_eq!(script.events.len(), 1);
-        let is_refused = lines(&items).starts_with(b"refused");
-        let said = format!("steps 1 from {x} refused {} ", u8::from(is_refused));
-        assert!(text(&format!("steps {x} 1 1")).starts_with(&said));
-        refused += u8::from(is_refused);
     }
-    assert!((1..40).contains(&refused));
 }
 
 #[test]
@@ -73,12 +103,17 @@ fn depth_tells_its_counts() {
 #[test]
 fn other_words_are_refused() {
     for words in [
-        "files 5 50 0",
-        "steps 5 50 20",
-        "items files 5 50",
-        "items 5 60 20",
-        "items steps 5 60 20 1",
-        "digests 5 60 20",
+        "starts files 5 50 0",
+        "starts steps 5 50 20",
+        "starts files 5 60",
+        "starts digests 5 60 20",
+        "items files 5",
+        "items 5 60",
+        "items steps 5 60 20",
+        "items steps 5 4294967296",
+        "lines files 4294967296 5",
+        "lines files x 5",
+        "files 5 60 20",
         "file",
         "file -1",
         "step x",

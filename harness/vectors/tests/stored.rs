@@ -50,9 +50,9 @@ fn command(program: &str, words: &[&str]) -> String {
 
 /// The first item whose output is not the stored one.
 fn first_that_differs(mut stored: &[u8]) -> Option<String> {
-    for item in stored_items() {
-        let Some(rest) = stored.strip_prefix(&lines(from_ref(&item))[..]) else {
-            return Some(item.name().to_string());
+    for (at, item) in stored_items().iter().enumerate() {
+        let Some(rest) = stored.strip_prefix(&lines(from_ref(item))[..]) else {
+            return Some(format!("item {at} {}", item.name()));
         };
         stored = rest;
     }
@@ -71,7 +71,7 @@ fn the_files_are_up_to_date() {
 }
 
 #[test]
-fn the_scripts_print_what_is_stored() {
+fn the_items_print_what_is_stored() {
     let path = "crates/sd2068_vectors/stdout";
     let found = fs::read(stored(path)).expect("a stored output");
     assert_eq!(first_that_differs(&found), None, "{path}");

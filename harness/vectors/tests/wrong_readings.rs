@@ -9,7 +9,7 @@ use vectors::file::cases::stored_cases;
 use vectors::file::owed::owed_reading;
 use vectors::file::Case;
 use vectors::lines::lines_reading;
-use vectors::scenarios::stored_items;
+use vectors::scenarios::stored_scripts;
 use vectors::script::Item;
 
 /// There are at least so many.
@@ -64,15 +64,14 @@ impl Vector {
         }
     }
 
-    /// Random draws are left out: what they tell is told by chance.
-    fn of_item(item: Item) -> Option<Vector> {
+    fn of_item(item: Item) -> Vector {
         let kind = match item {
             Item::PowerOn(_) => Kind::Script,
             Item::State(_) => Kind::State,
-            _ => return None,
+            Item::File(_) => Kind::File,
         };
         let name = item.name().to_string();
-        Some(Vector::new(kind, &name, Input::Item(item)))
+        Vector::new(kind, &name, Input::Item(item))
     }
 
     fn of_case(case: Case) -> Vector {
@@ -100,10 +99,11 @@ fn refuses_a_state(output: &[u8]) -> bool {
         .any(|line| line == b"refused 1")
 }
 
+/// Random steps and files are left out: what they tell is told by chance.
 fn stored_vectors() -> Vec<Vector> {
-    let items = stored_items().into_iter().filter_map(Vector::of_item);
+    let scripts = stored_scripts().into_iter().map(Vector::of_item);
     let files = stored_cases().into_iter().map(Vector::of_case);
-    items.chain(files).collect()
+    scripts.chain(files).collect()
 }
 
 /// What the vectors make of a reading.

@@ -1,50 +1,63 @@
-//! Writes what random files and steps owe, the files and steps themselves, and
-//! how deep files lead.
+//! Writes random files and steps, what is owed for them, and how deep files
+//! lead.
 
-use reference::Reading;
+use std::iter::once;
 use std::process::ExitCode;
-use vectors::chance::batch::{Batches, Kind};
+use std::slice::from_ref;
 use vectors::chance::depth::depth;
 use vectors::chance::draws::Draws;
 use vectors::chance::files::draw_file;
+use vectors::chance::row::{Kind, Row};
 use vectors::chance::steps::draw_step;
-use vectors::program::{run, Output};
+use vectors::lines::lines;
+use vectors::program::{run_in_pieces, Pieces};
 use vectors::script::encode;
 
-const USAGE: &str = "usage: random files SEED COUNT SIZE | steps SEED COUNT SIZE
-       random items files SEED COUNT SIZE | items steps SEED COUNT SIZE
+const USAGE: &str = "usage: random starts files|steps SEED COUNT SIZE
+       random items files|steps SEED COUNT
+       random lines files|steps SEED COUNT
        random file X | step X | depth SEED FILES
 COUNT is a multiple of SIZE";
 
 fn main() -> ExitCode {
-    run("random", USAGE, output_for)
+    run_in_pieces("random", USAGE, |words| Some(Ok(pieces_for(words)?)))
 }
 
-fn output_for(words: &[&str]) -> Output {
-    let bytes = match words {
-        ["items", kind, numbers @ ..] => encode(&[batches(kind, numbers)?.into()]),
-        ["file", x] => file(x.parse().ok()?),
-        ["step", x] => encode(&[draw_step(&mut Draws::from(x.parse().ok()?)).into()]),
-        ["depth", seed, files] => {
-            let depth = depth(seed.parse().ok()?, files.parse().ok()?);
-            depth.text().into_bytes()
+fn pieces_for(words: &[&str]) -> Option<Pieces> {
+    let whole = |bytes: Vec<u8>| -> Pieces { Box::new(once(bytes)) };
+    Some(match words {
+        ["starts", kind, seed, count, size] => {
+            let starts = row(kind, seed, count)?.starts(number(size)?)?;
+            Box::new(starts.map(|x| format!("{x}\n").into_bytes()))
         }
-        [kind, numbers @ ..] => batches(kind, numbers)?.lines(Reading::Right).into_bytes(),
+        ["items", kind, seed, count] => {
+            let items = row(kind, seed, count)?.items();
+            Box::new(items.map(|item| encode(from_ref(&item))))
+        }
+        ["lines", kind, seed, count] => {
+            let items = row(kind, seed, count)?.items();
+            Box::new(items.map(|item| lines(from_ref(&item))))
+        }
+        ["file", x] => whole(file(number(x)?)),
+        ["step", x] => whole(encode(&[draw_step(&mut Draws::from(number(x)?)).into()])),
+        ["depth", seed, files] => {
+            let depth = depth(number(seed)?, number(files)?);
+            whole(depth.text().into_bytes())
+        }
         _ => return None,
-    };
-    Some(Ok(bytes))
+    })
 }
 
-/// COUNT files or steps in batches of SIZE, from SEED on.
-fn batches(kind: &str, numbers: &[&str]) -> Option<Batches> {
-    let kind = Kind::named(kind)?;
-    let numbers: Result<Vec<u32>, _> = numbers.iter().map(|word| word.parse()).collect();
-    let [x, count, size] = numbers.ok()?.try_into().ok()?;
-    (count.checked_rem(size)? == 0).then_some(Batches {
-        kind,
-        x,
-        batches: count / size,
-        size,
+fn number(word: &str) -> Option<u32> {
+    word.parse().ok()
+}
+
+/// COUNT files or steps from SEED on.
+fn row(kind: &str, seed: &str, count: &str) -> Option<Row> {
+    Some(Row {
+        kind: Kind::named(kind)?,
+        x: number(seed)?,
+        count: number(count)?,
     })
 }
 

@@ -1,5 +1,6 @@
 //! The kinds of cases, and their records with what the model expects.
 
+use crate::file::Run;
 use crate::script::Event;
 use reference::{run_file, Answer, Chip, Reading, LINE_BYTES, STATE_BYTES};
 
@@ -18,13 +19,6 @@ pub struct State {
     pub bytes: [u8; STATE_BYTES],
     pub event: Event,
     pub address: u8,
-}
-
-/// A file, and the length of the output that it is lent.
-#[derive(Clone, Debug, PartialEq, Eq)]
-pub struct Run {
-    pub file: Vec<u8>,
-    pub room: usize,
 }
 
 impl Record for PowerOn {

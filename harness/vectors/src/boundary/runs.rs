@@ -1,10 +1,9 @@
 //! Runs of the stored files with several rooms, and of files by chance.
 
-use super::record::Run;
 use crate::chance::draws::Draws;
-use crate::chance::files::{draw_file, Drawn};
+use crate::chance::files::draw_file;
 use crate::file::cases::stored_cases;
-use crate::file::Case;
+use crate::file::{Case, Run};
 use reference::LINE_BYTES;
 
 const RANDOM: usize = 300;
@@ -12,7 +11,7 @@ const RANDOM: usize = 300;
 pub fn cases() -> Vec<Run> {
     let mut cases: Vec<Run> = stored_cases().iter().flat_map(with_rooms).collect();
     let mut draws = Draws::from(5);
-    cases.extend((0..RANDOM).map(|_| random(&mut draws)));
+    cases.extend((0..RANDOM).map(|_| draw_file(&mut draws)));
     cases
 }
 
@@ -29,9 +28,4 @@ fn with_rooms(case: &Case) -> Vec<Run> {
         room,
     };
     rooms.into_iter().map(run).collect()
-}
-
-fn random(draws: &mut Draws) -> Run {
-    let Drawn { file, room } = draw_file(draws);
-    Run { file, room }
 }

@@ -56,7 +56,7 @@ fn first_chip(item: &Item) -> Chip {
             powered.unwrap_or_else(|_| Chip::of_zeros(Reading::Right))
         }
         Item::State(script) => script.chip(Reading::Right),
-        Item::Random(_) => unreachable!("the stored scripts are no batches"),
+        Item::File(_) => unreachable!("the stored scripts are no files"),
     }
 }
 

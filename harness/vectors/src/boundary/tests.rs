@@ -1,11 +1,12 @@
 //! What the stream holds, read back by hand and counted against the rules.
 
 use super::contrasts::contrasts;
-use super::record::{PowerOn, Record, Run, State};
+use super::record::{PowerOn, Record, State};
 use super::{damaged, power, runs, states, stream};
 use crate::chance::draws::Draws;
 use crate::chance::files;
 use crate::file::cases::stored_cases;
+use crate::file::Run;
 use crate::script::{pulse_count, Event, Script};
 use reference::{check_event, STATE_BYTES};
 use std::collections::{BTreeMap, BTreeSet};

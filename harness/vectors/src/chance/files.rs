@@ -1,8 +1,15 @@
-//! Files by chance: most are built, many of those are good.
+//! Files by chance: most are built, and most of those are good.
+//!
+//! A built file has its two sections in either order with small gaps, three to
+//! twelve moves, mostly behind one that opens the lock, and starts at a time near
+//! a roll-over. One in eight is then damaged, and one in eight is lent a byte too
+//! little. One file in sixteen is not built, so that there are headers and
+//! lengths which no damage would lead to.
 
 use super::draws::Draws;
 use super::moves::Events;
 use super::tables::MOVES;
+use crate::file::Run;
 use crate::script::{self, decode_events};
 use reference::registers::USED;
 use reference::{EVENT_BYTES, HEADER_BYTES, LINE_BYTES, START_BYTES};
@@ -10,14 +17,7 @@ use reference::{EVENT_BYTES, HEADER_BYTES, LINE_BYTES, START_BYTES};
 /// Behind the header and the start bytes.
 const BEHIND_START: usize = HEADER_BYTES + START_BYTES;
 
-/// A file, and the room that its run is lent.
-#[derive(Clone, Debug, PartialEq, Eq)]
-pub struct Drawn {
-    pub file: Vec<u8>,
-    pub room: usize,
-}
-
-pub fn draw_file(draws: &mut Draws) -> Drawn {
+pub fn draw_file(draws: &mut Draws) -> Run {
     if draws.below(16) == 0 {
         arbitrary(draws)
     } else {
@@ -26,16 +26,17 @@ pub fn draw_file(draws: &mut Draws) -> Drawn {
 }
 
 /// From moves, now and then damaged or short of room.
-fn built(draws: &mut Draws) -> Drawn {
+fn built(draws: &mut Draws) -> Run {
     let (mut file, count) = good_file(draws);
     if draws.below(8) == 0 {
         damage(draws, &mut file);
     }
     let room = room_for(draws, count);
-    Drawn { file, room }
+    Run { file, room }
 }
 
-/// A file that nothing is wrong with, and the count of its events.
+/// A file that nothing is wrong with, and the count of its events. Up to three
+/// bytes stand before the first section, between the two and at the end.
 pub(super) fn good_file(draws: &mut Draws) -> (Vec<u8>, usize) {
     let start_first = draws.below(2) == 0;
     let first = HEADER_BYTES + draws.below(4);
@@ -60,7 +61,7 @@ pub(super) fn good_file(draws: &mut Draws) -> (Vec<u8>, usize) {
     (file, events.count())
 }
 
-/// Mostly the lock opens first.
+/// Three to twelve, any of the table; mostly the lock opens first.
 fn moves(draws: &mut Draws, at: usize) -> Events {
     let mut events = Events::at(at);
     let count = 3 + draws.below(10);
@@ -97,7 +98,8 @@ pub(super) fn room_for(draws: &mut Draws, count: usize) -> usize {
     }
 }
 
-/// One thing goes wrong; the file may stay good all the same.
+/// The file is cut, a byte of its header becomes any or the next one up or down,
+/// or any byte becomes any; the file may stay good all the same.
 pub(super) fn damage(draws: &mut Draws, file: &mut Vec<u8>) {
     match draws.below(4) {
         0 => {
@@ -122,7 +124,7 @@ fn step_a_byte(draws: &mut Draws, bytes: &mut [u8]) {
 }
 
 /// Not built from moves: noise, likely headers, and files near the limit.
-fn arbitrary(draws: &mut Draws) -> Drawn {
+fn arbitrary(draws: &mut Draws) -> Run {
     match draws.below(4) {
         0 => noise(draws, 64, 256),
         1 => likely_header(draws),
@@ -132,19 +134,19 @@ fn arbitrary(draws: &mut Draws) -> Drawn {
 }
 
 /// Fewer bytes than `lengths`, each below `limit`.
-fn noise(draws: &mut Draws, lengths: usize, limit: usize) -> Drawn {
+fn noise(draws: &mut Draws, lengths: usize, limit: usize) -> Run {
     let length = draws.below(lengths);
     let file = draws.bytes_below(length, limit);
     with_any_room(draws, file)
 }
 
-fn with_any_room(draws: &mut Draws, file: Vec<u8>) -> Drawn {
+fn with_any_room(draws: &mut Draws, file: Vec<u8>) -> Run {
     let room = draws.below(64);
-    Drawn { file, room }
+    Run { file, room }
 }
 
 /// Bytes that mostly pass for kinds, under a header that may fit them.
-fn likely_header(draws: &mut Draws) -> Drawn {
+fn likely_header(draws: &mut Draws) -> Run {
     let length = BEHIND_START + draws.below(100);
     let mut file = draws.bytes_below(length, 8);
     let event_count = draws.below(8);
@@ -160,12 +162,12 @@ fn likely_header(draws: &mut Draws) -> Drawn {
 }
 
 /// As many STARTs as a file can hold, give or take a few.
-fn near_the_limit(draws: &mut Draws) -> Drawn {
+fn near_the_limit(draws: &mut Draws) -> Run {
     let mut file = vec![0; 16_380 + draws.below(8)];
     let count = 4_084 + draws.below(8);
     put_header(&mut file, [count, BEHIND_START, START_BYTES, HEADER_BYTES]);
     let room = 20_440 + draws.below(10);
-    Drawn { file, room }
+    Run { file, room }
 }
 
 /// The start bytes and the events of a file that is not refused.

@@ -1,15 +1,15 @@
-//! Random files and steps, drawn alike here and in the program that is compared.
+//! Random files and steps.
 //!
-//! Each is settled by the number it is drawn from, down to the last draw; so
-//! two programs can compare many runs by a line for each batch.
+//! Each is settled by the number it is drawn from, down to the last draw: the
+//! same number always gives the same file or step, and one in which two programs
+//! differ can be drawn again alone.
 
-pub mod batch;
 pub mod depth;
-pub mod digest;
 pub mod draws;
 pub mod files;
 mod moves;
+pub mod row;
 pub mod steps;
-pub mod tables;
+mod tables;
 #[cfg(test)]
 mod tests;

@@ -1,4 +1,20 @@
 //! Moves: what a host does with the chip, as rows of events.
+//!
+//! A move is a row of 16 items, a byte each, and most items append events:
+//!
+//! - 01h, 02h, 04h, 05h, 08h: START, STOP, a read with ACK, a read with NAK, a
+//!   power loss,
+//! - 03h: STOP, three times in four,
+//! - 06h: pulses about a length at which something is due,
+//! - 07h: one to eight pulses,
+//! - 09h: none to seven reads with ACK,
+//! - 0Ah: no event; one time in four the rest of the move is left out,
+//! - 0Bh: one event of any kind, with a byte or pulses if the kind has them,
+//! - 20h to 37h: a master byte of the rows 0 to 23,
+//! - 40h to 43h: the master bytes 64h, 65h, 80h and 84h,
+//! - 80h to 9Fh: the master bytes 00h to 1Fh.
+//!
+//! Every other item, and so the 00h at the end of most rows, stands for nothing.
 
 use super::draws::Draws;
 use super::tables::{ANY_BYTE_ROW, MOVES};

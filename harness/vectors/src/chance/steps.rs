@@ -1,4 +1,10 @@
 //! Steps by chance: a state, well formed or not, and one event on it.
+//!
+//! A register and a latched byte hold what leads somewhere in that register. A
+//! counter stands about a number at which its rules turn, and can be one over its
+//! limit. Phase and mark are any. Some pointers are over 1Fh, some counts over
+//! their reload and some fixed bits set, so more than a third of the states are
+//! not well formed.
 
 use super::draws::Draws;
 use super::tables::{ANY_BYTE_ROW, EDGES};
@@ -57,7 +63,7 @@ fn row_of(register: usize) -> usize {
     }
 }
 
-/// Mostly the same as the count.
+/// Three times in four the same as the count, else any byte.
 fn reload(draws: &mut Draws, count: u8) -> u8 {
     let h = usize::from(draws.draw());
     if h % 4 == 0 {
@@ -89,7 +95,8 @@ fn short_counter(draws: &mut Draws, end: u32) -> [u8; 2] {
     [low, high]
 }
 
-/// Mostly an event that is not refused by itself.
+/// Mostly an event that is not refused by itself: one kind in sixteen is any byte,
+/// and one field in sixteen is set that the kind does not use.
 pub fn draw_event(draws: &mut Draws) -> Event {
     let kind = draws.mostly_below(7);
     let byte = match kind {
@@ -111,7 +118,7 @@ fn seldom_below(draws: &mut Draws, limit: usize) -> usize {
     }
 }
 
-/// Mostly a few.
+/// Up to seven, or one time in four about a length at which something is due.
 fn pulses(draws: &mut Draws) -> u16 {
     match draws.below(4) {
         0 => draws.length(),

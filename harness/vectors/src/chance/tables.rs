@@ -1,12 +1,7 @@
 //! What random files and steps are made from: bytes, moves, lengths and edges.
-//!
-//! They go with each random item, so that they stand here alone.
 
 /// The row for master bytes out of place.
 pub const ANY_BYTE_ROW: usize = 21;
-
-/// How many bytes the tables take in an item.
-const TABLE_BYTES: usize = 24 * 16 + 32 * 16 + 16 * 2 + 16 * 4;
 
 /// Bytes that lead somewhere, a row for each purpose.
 #[rustfmt::skip]
@@ -113,11 +108,3 @@ pub const EDGES: [u32; 16] = [
     8 - 2, 16 - 2, 512 - 2, 1_024 - 2, 4_096 - 2, 8_192 - 2, 16_384 - 2, 32_644 - 2,
     32_648 - 2, 32_768 - 2, 32_808 - 2, 32_892 - 2, 65_536 - 2, 262_144 - 2, 524_288 - 2, 1_966_080 - 2,
 ];
-
-/// The tables as they stand in an item.
-pub fn table_bytes() -> [u8; TABLE_BYTES] {
-    let mut bytes = [BYTES.concat(), MOVES.concat()].concat();
-    bytes.extend(LENGTHS.iter().flat_map(|length| length.to_le_bytes()));
-    bytes.extend(EDGES.iter().flat_map(|edge| edge.to_le_bytes()));
-    bytes.try_into().expect("the sizes add up")
-}

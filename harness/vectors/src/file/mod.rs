@@ -43,6 +43,13 @@ impl Case {
     }
 }
 
+/// A script file, and the room that its run is lent.
+#[derive(Clone, Debug, PartialEq, Eq)]
+pub struct Run {
+    pub file: Vec<u8>,
+    pub room: usize,
+}
+
 /// The argument words: a name and a room for each run.
 pub fn words(cases: &[Case]) -> String {
     let mut words = String::new();

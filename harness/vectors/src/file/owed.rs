@@ -47,7 +47,8 @@ pub fn owed_for_run(name: &str, file: &[u8], room: usize, reading: Reading) -> V
     out
 }
 
-fn run_line(run: &FileRun) -> String {
+/// What is handed back, but for the state.
+pub fn run_line(run: &FileRun) -> String {
     let FileRun {
         refusal,
         index,

@@ -15,7 +15,7 @@ mod sheets;
 mod states;
 mod time;
 
-use crate::chance::batch::{Batches, Kind};
+use crate::chance::row::{Kind, Row};
 use crate::script::Item;
 
 /// Saturday, 2000-01-01, 00:00:00, 24-hour.
@@ -45,7 +45,7 @@ const AUTO_RESET: u8 = 0x80;
 
 /// All stored items in their order.
 pub fn stored_items() -> Vec<Item> {
-    [stored_scripts(), stored_batches()].concat()
+    [stored_scripts(), stored_by_chance()].concat()
 }
 
 /// The scripts, from power-on and from states.
@@ -68,13 +68,18 @@ pub fn stored_scripts() -> Vec<Item> {
         .collect()
 }
 
-/// The random files and steps, twenty thousand each.
-pub fn stored_batches() -> Vec<Item> {
-    let batches = [(Kind::Files, 1), (Kind::Steps, 2)].map(|(kind, x)| Batches {
-        kind,
-        x,
-        batches: 20,
-        size: 1_000,
-    });
-    batches.map(Item::from).to_vec()
+/// The first of the random steps and files that are compared elsewhere by the
+/// thousand, so that each kind of item is among what is stored.
+pub fn stored_by_chance() -> Vec<Item> {
+    let steps = Row {
+        kind: Kind::Steps,
+        x: 2,
+        count: 200,
+    };
+    let files = Row {
+        kind: Kind::Files,
+        x: 1,
+        count: 40,
+    };
+    steps.items().chain(files.items()).collect()
 }

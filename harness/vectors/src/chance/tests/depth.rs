@@ -1,10 +1,10 @@
 //! What is counted, and that random files lead to what they were made for.
 
-use super::super::batch::{Batches, Kind};
 use super::super::depth::{depth, Depth};
+use super::super::row::{Kind, Row};
+use super::refusals;
 use crate::file::placed::Placed;
 use crate::script::Script;
-use reference::Reading;
 use std::collections::HashMap;
 
 fn by_name(depth: &Depth) -> HashMap<String, u64> {
@@ -118,17 +118,16 @@ fn random_files_lead_deep() {
 }
 
 #[test]
-fn depth_and_batch_see_the_same_files() {
+fn depth_and_row_see_the_same_files() {
     let counts = by_name(&depth(9, 300));
-    let batches = Batches {
+    let files = Row {
         kind: Kind::Files,
         x: 9,
-        batches: 1,
-        size: 300,
+        count: 300,
     };
-    let batch = &batches.run(Reading::Right)[0];
-    assert_eq!(counts["files that ran"], u64::from(batch.refusals[0]));
-    for (number, refused) in (1..).zip(&batch.refusals[1..]) {
+    let refusals = refusals(files.items());
+    assert_eq!(counts["files that ran"], u64::from(refusals[0]));
+    for (number, refused) in (1..).zip(&refusals[1..]) {
         let name = format!("files refused with {number}");
         assert_eq!(counts[&name], u64::from(*refused), "{name}");
     }

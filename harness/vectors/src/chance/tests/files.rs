@@ -1,9 +1,10 @@
 //! The form of the files, their damage and their rooms.
 
-use super::super::digest::Digest;
 use super::super::draws::Draws;
-use super::super::files::{damage, draw_file, good_file, pulse_count, room_for, sections, Drawn};
+use super::super::files::{damage, draw_file, good_file, pulse_count, room_for, sections};
 use super::{after, drawing, Wanted};
+use crate::digest::Digest;
+use crate::file::Run;
 use reference::run_file;
 
 /// The event count, events' offset, start count and start bytes' offset.
@@ -151,7 +152,7 @@ fn rooms_are_enough_but_for_one_in_eight() {
 }
 
 /// A file with these draws first, and the draws as they stand behind them.
-fn drawn(wanted: &[Wanted]) -> (Drawn, Draws) {
+fn drawn(wanted: &[Wanted]) -> (Run, Draws) {
     let draws = drawing(wanted);
     let behind = after(draws.clone(), wanted.len());
     (draw_file(&mut draws.clone()), behind)
@@ -196,14 +197,14 @@ fn files_lie_around_the_limit() {
     }
 }
 
-/// Lengths, bytes and rooms of 500 files, worked out by another program that
-/// was written from the same rules.
+/// Lengths, bytes and rooms of 500 files, so that a number that is written down
+/// goes on to mean the same file.
 #[test]
-fn files_are_the_same_elsewhere() {
+fn files_stay_the_same() {
     let mut draws = Draws::from(7);
     let mut digest = Digest::default();
     for _ in 0..500 {
-        let Drawn { file, room } = draw_file(&mut draws);
+        let Run { file, room } = draw_file(&mut draws);
         digest.take(file.len() as u64);
         digest.take_bytes(&file);
         digest.take(room as u64);

@@ -1,14 +1,16 @@
 //! Tests of the random files and steps, part by part.
 
-mod batch;
 mod depth;
-mod digest;
 mod draws;
 mod files;
 mod moves;
+mod row;
 mod steps;
 
 use super::draws::Draws;
+use crate::lines::lines;
+use crate::script::Item;
+use std::slice::from_ref;
 
 /// A draw that is wanted, and the limit it is drawn below.
 type Wanted = (usize, usize);
@@ -33,4 +35,20 @@ fn after(mut draws: Draws, count: usize) -> Draws {
         draws.draw();
     }
     draws
+}
+
+/// How many by the number of their refusal, as their lines tell; those at 0 ran.
+pub fn refusals(items: impl Iterator<Item = Item>) -> [u32; 9] {
+    let mut counts = [0; 9];
+    for item in items {
+        counts[refusal(&item)] += 1;
+    }
+    counts
+}
+
+/// A file's first line begins with `refusal N`, a refused step's is `refused N`.
+fn refusal(item: &Item) -> usize {
+    let owed = lines(from_ref(item));
+    let number = owed.starts_with(b"refus").then(|| owed[8] - b'0');
+    number.unwrap_or(0).into()
 }

@@ -1,10 +1,10 @@
 //! States and events by chance: their draws, their bounds, and what they lead to.
 
-use super::super::digest::Digest;
 use super::super::draws::Draws;
 use super::super::steps::{counter, draw_event, draw_state, draw_step};
 use super::super::tables::BYTES;
 use super::{after, drawing, Wanted};
+use crate::digest::Digest;
 use crate::script::{Event, Script};
 use reference::registers::{any_fixed_bit, CTR1, USED};
 use reference::{Chip, Phase, Reading, STATE_BYTES};
@@ -22,9 +22,9 @@ fn the_first_registers_are_those_worked_out_by_hand() {
 }
 
 /// The same state whole, and the one from 1, which is loose and marked, with
-/// their events, as another program made them from the same rules.
+/// their events.
 #[test]
-fn whole_steps_are_the_same_elsewhere() {
+fn whole_steps_stay_the_same() {
     let worked = [
         (
             0,
@@ -53,7 +53,7 @@ fn whole_steps_are_the_same_elsewhere() {
 
 /// States and events of 500 steps.
 #[test]
-fn many_steps_are_the_same_elsewhere() {
+fn many_steps_stay_the_same() {
     let mut draws = Draws::from(7);
     let mut digest = Digest::default();
     for _ in 0..500 {
@@ -126,8 +126,8 @@ fn counters_stand_about_the_edges() {
     }
 }
 
-/// The 20,000 steps that are stored.
-fn stored_steps() -> Vec<Script<STATE_BYTES>> {
+/// The 20,000 steps that the programs are compared on.
+fn compared_steps() -> Vec<Script<STATE_BYTES>> {
     let mut draws = Draws::from(2);
     (0..20_000).map(|_| draw_step(&mut draws)).collect()
 }
@@ -167,7 +167,7 @@ const NUMBERS: [Number; 7] = [
 
 #[test]
 fn each_bound_is_reached_and_passed() {
-    let chips: Vec<Chip> = stored_steps()
+    let chips: Vec<Chip> = compared_steps()
         .iter()
         .map(|script| script.chip(Reading::Right))
         .collect();
@@ -185,11 +185,11 @@ fn each_bound_is_reached_and_passed() {
     }
 }
 
-/// How many of the stored steps run, by phase and kind.
+/// How many of these steps run, by phase and kind.
 #[test]
 fn each_kind_runs_in_each_phase() {
     let mut ran: HashMap<(u8, u8), u32> = HashMap::new();
-    for script in stored_steps() {
+    for script in compared_steps() {
         let Event { kind, byte, count } = script.events[0];
         let mut chip = script.chip(Reading::Right);
         if chip.step_any(kind, byte, count).is_ok() {

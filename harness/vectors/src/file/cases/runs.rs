@@ -2,11 +2,11 @@
 
 use super::NEW_CENTURY;
 use crate::chance::draws::Draws;
-use crate::chance::files::{draw_file, pulse_count, Drawn};
+use crate::chance::files::{draw_file, pulse_count};
 use crate::file::example::example_script;
 use crate::file::owed::run_lent;
 use crate::file::placed::Placed;
-use crate::file::Case;
+use crate::file::{Case, Run};
 use crate::script::Script;
 use reference::Reading;
 
@@ -110,7 +110,7 @@ fn deep_runs() -> Vec<Case> {
         .collect()
 }
 
-fn goes_deep(drawn: &Drawn) -> bool {
+fn goes_deep(drawn: &Run) -> bool {
     let (run, _) = run_lent(&drawn.file, drawn.room, Reading::Right);
     run.refusal == 0 && (32_768..=100_000).contains(&pulse_count(&drawn.file))
 }
