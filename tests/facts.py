@@ -125,7 +125,7 @@ def main():
         build()
         with tempfile.TemporaryDirectory() as folder:
             groups = {
-                "stored files": sorted((ROOT / "crates" / "script_vectors" / "data").iterdir()),
+                "stored files": sorted((ROOT / "tests" / "files" / "data").iterdir()),
                 "examples": examples(folder),
                 "random files": drawn(folder),
             }

@@ -3,7 +3,7 @@
 from pathlib import Path
 from typing import NamedTuple
 
-VECTORS = Path(__file__).resolve().parent.parent / "crates" / "script_vectors"
+FILES = Path(__file__).resolve().parent / "files"
 
 
 class Run(NamedTuple):
@@ -17,19 +17,19 @@ class Run(NamedTuple):
 
 
 def data(name):
-    return (VECTORS / "data" / name).read_bytes()
+    return (FILES / "data" / name).read_bytes()
 
 
 def runs():
     """Each stored run, in order: the words that ask for it, and then what it owes."""
-    words = (VECTORS / "args").read_text().split()
-    with open(VECTORS / "stdout", "rb") as stored:
+    words = (FILES / "args").read_text().split()
+    with open(FILES / "runs", "rb") as stored:
         for name, room in zip(words[::2], words[1::2]):
             if stored.readline().decode() != f"{name} {room}\n":
-                raise ValueError(f"{name} {room} has no place in what is stored for script_vectors")
+                raise ValueError(f"{name} {room} has no place among the stored runs")
             refusal, index, count = map(int, stored.readline().split()[1::2])
             # The registers, which no script shows; then the output with 8 bytes behind it, and a newline.
             stored.readline()
             yield Run(name, refusal, index, count, stored.read(int(room) + 9)[: int(room)])
         if stored.read():
-            raise ValueError("more is stored for script_vectors than its words ask for")
+            raise ValueError("there are more stored runs than the words ask for")

@@ -1,7 +1,7 @@
 """Scripts as text: what each word stands for, every error with its place, listings, and the command tools/script.
 
 What is expected is written down by hand from docs/RULES.md and docs/SCRIPTS.md, or is the independent model's
-(crates/script_vectors). Prints each thing that is not as it should be; the exit status is then 1.
+(tests/files). Prints each thing that is not as it should be; the exit status is then 1.
 """
 
 import ast
@@ -328,7 +328,7 @@ def round_trip(what, data):
 def stored_files():
     # 7 is about the output that is lent, and not about the file.
     owed = {run.name: (run.refusal, run.index) if run.refusal not in (0, 7) else None for run in stored.runs()}
-    every = {path.name: path.read_bytes() for path in (stored.VECTORS / "data").iterdir()}
+    every = {path.name: path.read_bytes() for path in (stored.FILES / "data").iterdir()}
     yield from differing("names of the stored files", sorted(owed), sorted(every))
     yield from differing("refusals among them", {2, 3, 4, 5, 6, 8}, {found[0] for found in owed.values() if found})
     for name, data in every.items():
@@ -600,7 +600,7 @@ def main():
         for fault in part:
             print(f"texts: {fault}")
             faults += 1
-    many = len(list((stored.VECTORS / "data").iterdir()))
+    many = len(list((stored.FILES / "data").iterdir()))
     print(f"texts: {many} stored and {RANDOM_FILES} random files, {RANDOM_TEXTS} random texts, {len(ERRORS)} errors")
     return 1 if faults else 0
 

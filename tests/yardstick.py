@@ -6,6 +6,7 @@ second numbers and dates to Python's datetime. Prints how much was compared; the
 
 import os
 import random
+import re
 import struct
 import subprocess
 import sys
@@ -17,7 +18,7 @@ import calendar_figures
 ROOT = Path(__file__).resolve().parent.parent
 TARGET = ROOT / "target" / "benches"
 MODEL = ROOT / "harness" / "target" / "release"
-FILES = ROOT / "crates" / "script_vectors"
+FILES = ROOT / "tests" / "files"
 ROUNDS = ROOT / "crates" / "date_rounds"
 C = ROOT / "tools" / "c"
 
@@ -64,7 +65,7 @@ def compare(what, owed, given):
 def stored_files():
     words = (FILES / "args").read_text().split()
     given = yardstick("check", "runs", *words, cwd=FILES / "data")
-    compare("stored script files", (FILES / "stdout").read_bytes(), given)
+    compare("stored script files", (FILES / "runs").read_bytes(), given)
     return len(words) // 2
 
 
@@ -103,12 +104,18 @@ def scripts_in(items):
     return items[:at], events
 
 
+def without_pins(lines):
+    """The yardstick says of an event that is refused only with what number."""
+    return re.sub(rb"^(refused [0-9]) -- [HLX]$", rb"\1", lines, flags=re.MULTILINE)
+
+
 def steps(what, items):
     items, events = scripts_in(items)
     with tempfile.NamedTemporaryFile() as file:
         file.write(items)
         file.flush()
-        compare(what, output([MODEL / "sd2068", "lines", file.name]), yardstick("check", "items", input=items))
+        owed = without_pins(output([MODEL / "sd2068", "lines", file.name]))
+        compare(what, owed, yardstick("check", "items", input=items))
     return events
 
 

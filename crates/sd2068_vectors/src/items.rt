@@ -1,9 +1,7 @@
-// The items of the input: scripts from power-on or from a state, and batches of random files or steps.
-use crate::batches::run_batches;
+// The items of the input: scripts from power-on or from a state, and script files.
+use crate::files::from_file;
 use crate::lines::print_refusal;
 use crate::scripts::run_events;
-use crate::tables::SIZE;
-use crate::words::long;
 use libc::STDIN_FILENO;
 use state_bytes::clock_of;
 
@@ -32,8 +30,7 @@ fn run_next() -> bool {
     match what {
         0 => from_power_on(),
         1 => from_state(),
-        2 => from_draws(true),
-        3 => from_draws(false),
+        2 => from_file(),
         _ => false,
     }
 }
@@ -60,21 +57,5 @@ fn from_state() -> bool {
         return false;
     }
     run_events(clock_of(&bytes));
-    true
-}
-
-// Batches, with the tables that they are drawn from.
-fn from_draws(whole: bool) -> bool {
-    let mut b = [0u8; 12];
-    io::read_full(STDIN_FILENO, &mut b);
-    let mut tables = [0u8; SIZE];
-    let got = io::read_full(STDIN_FILENO, &mut tables);
-    if got < SIZE {
-        return false;
-    }
-    let x = long(b[0], b[1], b[2], b[3]);
-    let batches = long(b[4], b[5], b[6], b[7]);
-    let size = long(b[8], b[9], b[10], b[11]);
-    run_batches(&tables, whole, x, batches, size);
     true
 }

@@ -1,45 +1,45 @@
-// The lines that are printed. (rule 8.1)
-use crate::tally::Tally;
+// The lines that are printed. (rules 8.1 and 8.3)
 use events::Answer;
 use events::Refusal;
 use libc::STDOUT_FILENO;
+use script::Ran;
 use sd2068::Clock;
 use sd2068::Stepped;
 use state_bytes::bytes_of;
 
-// Nothing for no refusal.
+// A line, or nothing for no refusal.
 pub fn print_refusal(refusal: Refusal) {
+    print_number(refusal, b"\n");
+}
+
+fn print_number(refusal: Refusal, end: &[u8]) {
     let n = refusal.number();
     if 0 < n {
-        print_figure(b"refused ", n as u32);
-        print(b"\n");
+        print_figure(b"refused ", n as u64);
+        print(end);
     }
 }
 
-// A step's answer and pin, or its refusal; whether it was accepted.
+// A step's answer and pin, behind its refusal; whether it was taken.
 pub fn print_step(r: Stepped) -> bool {
     let refusal = r.refusal;
     let answer = r.answer;
     let pin = r.pin;
-    if refusal.number() == 0 {
-        let text = answer.text();
-        let end = [b' ', pin.letter(), b'\n'];
-        print(&text);
-        print(&end);
-        true
-    } else {
-        print_refusal(refusal);
-        false
-    }
+    print_number(refusal, b" ");
+    let text = answer.text();
+    let end = [b' ', pin.letter(), b'\n'];
+    print(&text);
+    print(&end);
+    refusal.number() == 0
 }
 
-fn print(text: &[u8]) {
+pub fn print(text: &[u8]) {
     io::write_all(STDOUT_FILENO, text);
 }
 
-fn print_figure(name: &[u8], n: u32) {
+fn print_figure(name: &[u8], n: u64) {
     print(name);
-    io::print_decimal(STDOUT_FILENO, n as u64);
+    io::print_decimal(STDOUT_FILENO, n);
 }
 
 // A byte as a read answers it.
@@ -66,15 +66,12 @@ pub fn print_state(c: Clock) {
     print(b"\n");
 }
 
-// What a batch of random files or steps comes to.
-pub fn print_batch(whole: bool, size: u32, x: u32, tally: Tally) {
-    if whole {
-        print_figure(b"files ", size);
-    } else {
-        print_figure(b"steps ", size);
-    }
-    print_figure(b" from ", x);
-    print_figure(b" refused ", tally.refused);
-    print_figure(b" digest ", tally.digest);
+// What the run of a file hands back, but for its lines.
+pub fn print_ran(ran: Ran) {
+    let refusal = ran.refusal;
+    print_figure(b"refusal ", refusal.number() as u64);
+    print_figure(b" index ", ran.index as u64);
+    print_figure(b" count ", ran.count as u64);
     print(b"\n");
+    print_state(ran.clock);
 }

@@ -41,7 +41,7 @@ fn run(mut chip: Chip, events: &[Event], out: &mut Vec<u8>) {
         let result = chip.step_any(event.kind, event.byte, event.count);
         match result {
             Ok(answer) => answer_line(answer, &chip, out),
-            Err(number) => refusal_line(number, out),
+            Err(number) => refused_line(number, &chip, out),
         }
         shown = result.is_ok() && matches!(event.kind, Event::STOP | Event::POWER_LOSS);
         if shown {
@@ -67,6 +67,13 @@ fn answer_line(answer: Answer, chip: &Chip, out: &mut Vec<u8>) {
     out.extend([b' ', chip.pin().letter(), b'\n']);
 }
 
+/// A refused event too has an answer, which says nothing, and a pin.
+fn refused_line(number: u8, chip: &Chip, out: &mut Vec<u8>) {
+    out.extend(format!("refused {number} ").bytes());
+    answer_line(Answer::None, chip, out);
+}
+
+/// A power-on that is refused answers nothing else.
 fn refusal_line(number: u8, out: &mut Vec<u8>) {
     out.extend(format!("refused {number}\n").bytes());
 }

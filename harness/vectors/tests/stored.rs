@@ -16,8 +16,8 @@ const FACTS: &str = env!("CARGO_BIN_EXE_facts");
 const FILES: [(&str, &str, &[&str]); 9] = [
     ("crates/sd2068_vectors/stdin", SD2068, &["events"]),
     ("crates/sd2068_vectors/stdout", SD2068, &["lines"]),
-    ("crates/script_vectors/args", SCRIPT, &["args"]),
-    ("crates/script_vectors/stdout", SCRIPT, &["lines"]),
+    ("tests/files/args", SCRIPT, &["args"]),
+    ("tests/files/runs", SCRIPT, &["lines"]),
     ("crates/clock/stdin", SCRIPT, &["example", "read"]),
     ("crates/explain/stdin", FACTS, &["script"]),
     ("crates/explain/stdout", FACTS, &["lines"]),
@@ -26,7 +26,7 @@ const FILES: [(&str, &str, &[&str]); 9] = [
 ];
 
 /// A folder that holds nothing but the files of `script files`.
-const DATA: &str = "crates/script_vectors/data";
+const DATA: &str = "tests/files/data";
 
 /// A path from the repository's root on.
 fn stored(path: &str) -> PathBuf {

@@ -36,6 +36,16 @@ impl Case {
         }
     }
 
+    /// A run for each of its rooms.
+    pub fn into_runs(self) -> Vec<Run> {
+        let Case { file, rooms, .. } = self;
+        let run = |room| Run {
+            file: file.clone(),
+            room,
+        };
+        rooms.into_iter().map(run).collect()
+    }
+
     /// The same with other rooms.
     pub fn rooms(mut self, rooms: &[usize]) -> Case {
         self.rooms = rooms.to_vec();

@@ -16,6 +16,8 @@ mod states;
 mod time;
 
 use crate::chance::row::{Kind, Row};
+use crate::file::cases::stored_cases;
+use crate::file::Case;
 use crate::script::Item;
 
 /// Saturday, 2000-01-01, 00:00:00, 24-hour.
@@ -45,7 +47,13 @@ const AUTO_RESET: u8 = 0x80;
 
 /// All stored items in their order.
 pub fn stored_items() -> Vec<Item> {
-    [stored_scripts(), stored_by_chance()].concat()
+    [stored_scripts(), stored_by_chance(), stored_files()].concat()
+}
+
+/// The stored script files, each with every room that it is run with.
+fn stored_files() -> Vec<Item> {
+    let runs = stored_cases().into_iter().flat_map(Case::into_runs);
+    runs.map(Item::File).collect()
 }
 
 /// The scripts, from power-on and from states.

@@ -26,7 +26,10 @@ fn refused_states_stay_as_they_are() {
     for item in &refused {
         let printed = Printed::of(item.clone());
         assert!(
-            printed.text().split(", ").all(|l| l == "refused 1"),
+            printed
+                .text()
+                .split(", ")
+                .all(|l| l.starts_with("refused 1 -- ")),
             "{}",
             printed.name
         );
@@ -119,7 +122,7 @@ fn lock_bits_with_the_first() {
 #[test]
 fn events_are_refused_in_order() {
     let printed = printed("state: 2 before 3");
-    let owed = "refused 2, refused 2, refused 3, refused 3, -- H";
+    let owed = "refused 2 -- H, refused 2 -- H, refused 3 -- H, refused 3 -- H, -- H";
     assert_eq!(printed.text(), owed);
 }
 

@@ -2,8 +2,8 @@
 use mathlib.Core.Path.{sym}
 use lib.Seq.{length-take-le}
 use borrow.Author.Needs.{needs}
-use Rattle.script_vectors.proofs.cases.run_file.Statement.{statement}
-use Rattle.script_vectors.proofs.cases.run_file.Tie as tie
+use Rattle.sd2068_vectors.proofs.files.run_file.Statement.{statement}
+use Rattle.sd2068_vectors.proofs.files.run_file.Tie as tie
 
 slice-relend-prefix-run : tie.Need-slice-relend-prefix-run
 slice-relend-prefix-run c = search needs
