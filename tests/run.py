@@ -186,8 +186,8 @@ def settings():
     """How many checks at a time, and a temporary folder in memory, where there is room: the prover copies much into it."""
     os.environ["CARGO_TARGET_DIR"] = os.path.abspath("harness/target")
     memory = os.sysconf("SC_PAGE_SIZE") * os.sysconf("SC_PHYS_PAGES")
-    # Two for each processor, since those of one level wait for each other; one takes up to 2 GiB.
-    os.environ.setdefault("RT_JOBS", str(max(1, min(2 * (os.cpu_count() or 1), 4, memory // (4 * GIB)))))
+    # Three for each processor, since those begun together wait for each other; one takes up to 2 GiB.
+    os.environ.setdefault("RT_JOBS", str(max(1, min(3 * (os.cpu_count() or 1), memory // (3 * GIB)))))
     if "TMPDIR" in os.environ or not has_room():
         yield
         return
