@@ -97,6 +97,7 @@ fn latched_time(c: Clock) -> Time {
     }
 }
 
+// The deeds of a byte and of a read have functions of their own: one for all would be dear to prove.
 fn print_deed(deed: Deed) {
     match deed {
         Deed::Refused => print(b" refused --"),
@@ -105,6 +106,15 @@ fn print_deed(deed: Deed) {
         Deed::Closed => print(b" closed --"),
         Deed::Cleared => print(b" cleared --"),
         Deed::Idle => print(b" idle --"),
+        Deed::Passed => print(b" passed --"),
+        Deed::PowerLost => print(b" power-lost --"),
+        _ => print_heard(deed),
+    }
+}
+
+// What a master's byte did. (rules 6.3 to 6.6)
+fn print_heard(deed: Deed) {
+    match deed {
         Deed::ToWrite => print(b" to-write --"),
         Deed::ToRead => print(b" to-read --"),
         Deed::Elsewhere => print(b" elsewhere --"),
@@ -113,12 +123,17 @@ fn print_deed(deed: Deed) {
         Deed::Stored(a) => print_at(b" stored ", a),
         Deed::Lost(a) => print_at(b" lost ", a),
         Deed::Unheard => print(b" unheard --"),
+        _ => print_read(deed),
+    }
+}
+
+// What a read did: the register that it sent, or nothing was sent. (rules 6.7 to 6.9)
+fn print_read(deed: Deed) {
+    match deed {
         Deed::Latched(a) => print_at(b" latched ", a),
         Deed::Sent(a) => print_at(b" sent ", a),
         Deed::Renewed(a) => print_at(b" renewed ", a),
-        Deed::Silent => print(b" silent --"),
-        Deed::Passed => print(b" passed --"),
-        Deed::PowerLost => print(b" power-lost --"),
+        _ => print(b" silent --"),
     }
 }
 

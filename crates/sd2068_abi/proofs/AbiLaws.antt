@@ -23,15 +23,15 @@ use Rattle.script.specs.File as script
 use Rattle.script.specs.File.{Run}
 use Rattle.state_bytes.specs.Decoded.{clockOf, plainOf, isState}
 use Rattle.state_bytes.specs.Encoded.{bytesOf}
-use Rattle.state_bytes.specs.Put.{putState}
 use Rattle.state_bytes.specs.Shapes.{Bytes}
 use Rattle.state_bytes.proofs.RoundLaws.{decoded-well, decoded-again, pin-back}
+use Rattle.state_events.specs.Put.{putState}
+use Rattle.state_events.specs.Traffic.{Done, done}
+use Rattle.state_events.specs.Event.{eventIn, answeredIn}
+use Rattle.state_events.proofs.TrafficLaws.{doneBy}
+use Rattle.state_events.proofs.EventLaws.{event-left}
 use Rattle.sd2068_abi.specs.Told.{toldOf, ranOf}
 use Rattle.sd2068_abi.specs.Abi.{lent, lentRun, fullOf, acceptedOf, powerOf, answeredOf, doneOf, stepOf, runOf}
-use Rattle.state_bytes.specs.Traffic.{Done, done}
-use Rattle.state_bytes.specs.Event.{eventIn, answeredIn}
-use Rattle.state_bytes.proofs.TrafficLaws.{doneBy}
-use Rattle.state_bytes.proofs.EventLaws.{event-left}
 
 -- which bytes are accepted
 module _ (s : List ℕ) where

@@ -28,8 +28,8 @@ use Rattle.script.proofs.SectionLaws.{most-events}
 use Rattle.state_bytes.specs.Decoded.{clockOf}
 use Rattle.state_bytes.specs.Encoded.{bytesOf}
 use Rattle.state_bytes.specs.Shapes.{Arrays, Bytes}
-use Rattle.state_bytes.proofs.ArrayLaws.{decoded-arrays, power-on-arrays, step-arrays, steps-arrays}
 use Rattle.state_bytes.proofs.RoundLaws.{encoded-back, encoded-state, decoded-well, decoded-again}
+use Rattle.state_events.proofs.ArrayLaws.{decoded-arrays, power-on-arrays, step-arrays, steps-arrays}
 use Rattle.sd2068_abi.specs.Told.{answerByte, answerNumber, toldOf, ranOf}
 use Rattle.sd2068_abi.specs.Abi.{Lent, lent, fullOf, acceptedOf, powerOf, answeredOf, doneOf, stepOf, afterIn, lentRun, runOf}
 use Rattle.sd2068_abi.proofs.AbiLaws.{accepted-full, accepted-state}

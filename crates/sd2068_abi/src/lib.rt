@@ -5,13 +5,13 @@ use events::Answer;
 use events::fault;
 use script::run;
 use sd2068::power_on;
-use state_bytes::answered;
 use state_bytes::bytes_of;
 use state_bytes::clock_of;
 use state_bytes::is_state;
 use state_bytes::pin_of;
 use state_bytes::plain;
-use state_bytes::put_state;
+use state_events::answered;
+use state_events::put_state;
 ghost use mathlib.Core.Path.{_≡_};
 ghost use Rattle.sd2068_abi.specs.Abi.{lent, lentRun, powerOf, stepOf, pinOf, registerOf, runOf};
 

@@ -3,11 +3,6 @@ pub mod PhaseLaws
 pub mod BitLaws
 pub mod RoundLaws
 pub mod RegisterLaws
-pub mod ArrayLaws
-pub mod CopyLaws
 pub mod JudgedLaws
 pub mod PinLaws
-pub mod TrafficLaws
-pub mod WriteLaws
-pub mod EventLaws
 pub mod Settled

@@ -3,8 +3,4 @@ pub mod Places
 pub mod Phases
 pub mod Decoded
 pub mod Encoded
-pub mod Put
-pub mod Written
-pub mod Traffic
-pub mod Event
 pub mod Shapes

@@ -17,7 +17,7 @@ use sd2068::Clock;
 ghost use mathlib.Core.Path.{_≡_};
 ghost use Rattle.state_bytes.specs.Decoded.{handOf, alarmOf, countdownOf, lockOf, controlOf, rtcfOf, ramOf, latchedOf, dividerOf, busOf, clockOf, plainOf};
 
-pub(crate) fn hand_of(s: &[u8]) -> Hand
+pub fn hand_of(s: &[u8]) -> Hand
     ensures { λ r. ⌜ r ≡ handOf (now (s .entry)) ⌝ }
 {
     Hand {
@@ -27,7 +27,7 @@ pub(crate) fn hand_of(s: &[u8]) -> Hand
     }
 }
 
-pub(crate) fn alarm_of(s: &[u8]) -> Alarm
+pub fn alarm_of(s: &[u8]) -> Alarm
     ensures { λ r. ⌜ r ≡ alarmOf (now (s .entry)) ⌝ }
 {
     Alarm {
@@ -38,7 +38,7 @@ pub(crate) fn alarm_of(s: &[u8]) -> Alarm
     }
 }
 
-pub(crate) fn countdown_of(s: &[u8]) -> Countdown
+pub fn countdown_of(s: &[u8]) -> Countdown
     ensures { λ r. ⌜ r ≡ countdownOf (now (s .entry)) ⌝ }
 {
     Countdown {
@@ -50,7 +50,7 @@ pub(crate) fn countdown_of(s: &[u8]) -> Countdown
     }
 }
 
-pub(crate) fn lock_of(s: &[u8]) -> Lock
+pub fn lock_of(s: &[u8]) -> Lock
     ensures { λ r. ⌜ r ≡ lockOf (now (s .entry)) ⌝ }
 {
     Lock {
@@ -60,7 +60,7 @@ pub(crate) fn lock_of(s: &[u8]) -> Lock
     }
 }
 
-pub(crate) fn control_of(s: &[u8]) -> Control
+pub fn control_of(s: &[u8]) -> Control
     ensures { λ r. ⌜ r ≡ controlOf (now (s .entry)) ⌝ }
 {
     let b = at(s, 0x10);
@@ -76,7 +76,7 @@ pub(crate) fn control_of(s: &[u8]) -> Control
     }
 }
 
-pub(crate) fn rtcf_of(s: &[u8]) -> bool
+pub fn rtcf_of(s: &[u8]) -> bool
     ensures { λ r. ⌜ r ≡ rtcfOf (now (s .entry)) ⌝ }
 {
     at(s, 0x0F) / 0x01 % 2 == 1
@@ -121,7 +121,7 @@ pub(crate) fn divider_of(s: &[u8]) -> u32
     long_at(s, 53)
 }
 
-pub(crate) fn bus_of(s: &[u8]) -> Bus
+pub fn bus_of(s: &[u8]) -> Bus
     ensures { λ r. ⌜ r ≡ busOf (now (s .entry)) ⌝ }
 {
     let transfer = Transfer {

@@ -17,7 +17,7 @@ fn mode_number(mode: Mode) -> u8
     }
 }
 
-pub(crate) fn number_in(phase: Phase) -> u8
+pub fn number_in(phase: Phase) -> u8
     ensures { λ r. ⌜ r ≡ numberIn phase ⌝ }
 {
     match phase {
@@ -32,7 +32,7 @@ fn mark_number(marked: bool) -> u8
     if marked { 1 } else { 0 }
 }
 
-pub(crate) fn mark_in(phase: Phase) -> u8
+pub fn mark_in(phase: Phase) -> u8
     ensures { λ r. ⌜ r ≡ markIn phase ⌝ }
 {
     match phase {
@@ -41,7 +41,7 @@ pub(crate) fn mark_in(phase: Phase) -> u8
     }
 }
 
-pub(crate) fn age_in(phase: Phase) -> u32
+pub fn age_in(phase: Phase) -> u32
     ensures { λ r. ⌜ r ≡ ageIn phase ⌝ }
 {
     match phase {

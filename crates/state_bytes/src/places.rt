@@ -1,27 +1,19 @@
-// Bytes by their place: past the end there is 0, and nothing is written. (rule 10.1)
+// Bytes by their place: past the end there is 0. (rule 10.1)
 use crate::words::long;
 use crate::words::word;
 use calendar::Time;
 ghost use mathlib.Core.Path.{_≡_};
-ghost use lib.ListN.{getD, set};
+ghost use lib.ListN.{getD};
 ghost use Rattle.state_bytes.specs.Places.{timeAt, wordAt, longAt};
 
-pub(crate) fn at(s: &[u8], i: usize) -> u8
+pub fn at(s: &[u8], i: usize) -> u8
     ensures { λ r. ⌜ r ≡ getD (now (s .entry)) i 0 ⌝ }
 {
     if i < s.len() { s[i] } else { 0 }
 }
 
-pub(crate) fn put_at(s: &mut [u8], i: usize, b: u8)
-    ensures { λ _. ⌜ now (s .exit) ≡ set (now (s .entry)) i b ⌝ }
-{
-    if i < s.len() {
-        s[i] = b;
-    }
-}
-
 // Seven bytes in the order of the time's registers.
-pub(crate) fn time_at(s: &[u8], i: u8) -> Time
+pub fn time_at(s: &[u8], i: u8) -> Time
     ensures { λ r. ⌜ r ≡ timeAt (now (s .entry)) i ⌝ }
 {
     let i = i as usize;

@@ -14,25 +14,25 @@ pub(crate) fn long(a: u8, b: u8, c: u8, d: u8) -> u32
     a as u32 + 256 * b as u32 + 65536 * c as u32 + 16777216 * d as u32
 }
 
-pub(crate) fn low(v: u32) -> u8
+pub fn low(v: u32) -> u8
     ensures { λ r. ⌜ r ≡ lowOf v ⌝ }
 {
     (v % 256) as u8
 }
 
-pub(crate) fn second(v: u32) -> u8
+pub fn second(v: u32) -> u8
     ensures { λ r. ⌜ r ≡ secondOf v ⌝ }
 {
     (v / 256 % 256) as u8
 }
 
-pub(crate) fn third(v: u32) -> u8
+pub fn third(v: u32) -> u8
     ensures { λ r. ⌜ r ≡ thirdOf v ⌝ }
 {
     (v / 65536 % 256) as u8
 }
 
-pub(crate) fn high(v: u32) -> u8
+pub fn high(v: u32) -> u8
     ensures { λ r. ⌜ r ≡ highOf v ⌝ }
 {
     (v / 16777216) as u8

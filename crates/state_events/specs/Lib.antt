@@ -1,0 +1,4 @@
+pub mod Put
+pub mod Written
+pub mod Traffic
+pub mod Event
