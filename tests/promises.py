@@ -13,7 +13,7 @@ from names import theorems
 PAGE = Path("docs/PROMISES.md")
 FILE = Path("crates/promises/proofs/Promises.antt")
 THEOREMS = re.compile(r"(?:`[a-z][a-z0-9-]*`[^`()]*)+\(`(crates/[a-z0-9_]+/proofs/\w+\.antt)`\)")
-EDITS = re.compile(r"`(crates/[a-z0-9_]+/must-fail/\w+\.edit)`")
+EDITS = re.compile(r"`(crates/[a-z0-9_]+/(?:must-fail|wrong)/\w+\.edit)`")
 
 
 def named(text):

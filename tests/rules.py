@@ -17,7 +17,7 @@ from names import defined
 RULES = Path("docs/RULES.md")
 LAWS = Path("docs/LAWS.md")
 HEADS = {RULES: "| Rule | Definition | Code | Test |", LAWS: "| Law | Where |"}
-SOURCES = ("*/specs/*.antt", "*/src/*.rt", "*/proofs/**/*.antt", "*/must-fail/*.edit")
+SOURCES = ("*/specs/*.antt", "*/src/*.rt", "*/proofs/**/*.antt", "*/must-fail/*.edit", "*/wrong/*.edit")
 
 RULE = re.compile(r"(\d+\.\d+) \S")
 ENTRY = re.compile(r"(?:(`[\w-]+`(?:(?:, | and | or )`[\w-]+`)*) in )?\[([\w/]+)\]\(([\w./-]+)\)")
