@@ -108,7 +108,9 @@ fn print_deed(deed: Deed) {
         Deed::Idle => print(b" idle --"),
         Deed::Passed => print(b" passed --"),
         Deed::PowerLost => print(b" power-lost --"),
-        _ => print_heard(deed),
+        Deed::ToWrite | Deed::ToRead | Deed::Elsewhere | Deed::Unheard => print_heard(deed),
+        Deed::Pointed(_) | Deed::Beyond | Deed::Stored(_) | Deed::Lost(_) => print_heard(deed),
+        Deed::Latched(_) | Deed::Sent(_) | Deed::Renewed(_) | Deed::Silent => print_read(deed),
     }
 }
 
@@ -122,8 +124,7 @@ fn print_heard(deed: Deed) {
         Deed::Beyond => print(b" beyond --"),
         Deed::Stored(a) => print_at(b" stored ", a),
         Deed::Lost(a) => print_at(b" lost ", a),
-        Deed::Unheard => print(b" unheard --"),
-        _ => print_read(deed),
+        _ => print(b" unheard --"),
     }
 }
 
