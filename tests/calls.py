@@ -12,7 +12,7 @@ import time
 from pathlib import Path
 
 from clock import PATIENCE, ROOT, Tries, cloned
-from parts import PARTS
+from parts import PARTS, REFUSALS
 
 # What rt prints in a run from nothing: two libraries and a program, an edit of each library.
 RT_LINES = """\
@@ -29,6 +29,15 @@ rt: ok, 3 crates proved, 2 must-fail edits refused
 OWN = ("test", "tests/run.py", "tests/parts.py")
 
 
+def tests_of(*calls):
+    """The tests that calls name."""
+    return {word for call in calls for word in call.words if word.startswith("tests/")}
+
+
+# All of them, those too that are called only behind rt ci.
+TESTS = tests_of(REFUSALS, *(call for part in PARTS for call in part.calls + (part.whole or ())))
+
+
 class Copy:
     """A copy of ./test among stand-ins, each of which notes its call; what is named here fails, or says other lines."""
 
@@ -37,13 +46,11 @@ class Copy:
         for name in OWN:
             (self.folder / name).parent.mkdir(exist_ok=True)
             shutil.copy(ROOT / name, self.folder / name)
-        for name in {call.words[-1] for part in PARTS for call in part.calls if call.words[-1].startswith("tests/")}:
-            self.put(name, "" if name not in failing else "exit 1")
-        for name in ("tests/wrong_programs.py", "tests/refusals.py", "tests/compare.py"):
-            self.put(name, "" if name not in failing else "exit 1")
-        for name in ("cargo", "gcc", "g++", "python3"):
-            self.put("bin/" + name, "")
+        for name in (*TESTS, "tools/program", "bin/cargo", "bin/gcc", "bin/g++"):
+            self.put(name, "exit 1\n" if name in failing else "")
         self.put("bin/rt", 'case $1 in fmt) exit ;; esac\ncat <<"TEXT"\n%sTEXT\nexit %d\n' % (rt, rt_status))
+        (self.folder / "bin" / "python3").symlink_to(sys.executable)
+        self.path = "%s:%s" % (self.folder / "bin", os.environ["PATH"])
         self.put("target/mark", "")
         self.put("crates/one/wrong/c.edit", "")
 
@@ -59,10 +66,7 @@ class Copy:
     def run(self, *words, path=None):
         """Status, output, errors, and the stand-ins that were called."""
         (self.folder / "calls").write_text("")
-        # The copy's own tools first; python3 is the one that runs this test.
-        (self.folder / "bin" / "python3").unlink(missing_ok=True)
-        (self.folder / "bin" / "python3").symlink_to(sys.executable)
-        env = {**os.environ, "PATH": path or "%s:%s" % (self.folder / "bin", os.environ["PATH"])}
+        env = {**os.environ, "PATH": path or self.path}
         done = subprocess.run([self.folder / "test", *words], capture_output=True, text=True, env=env, timeout=PATIENCE)
         return done.returncode, done.stdout, done.stderr, (self.folder / "calls").read_text().splitlines()
 
@@ -116,9 +120,7 @@ def try_whole(tries):
     counts = [line.split()[-1] for line in out.splitlines()[-7:-3]]
     tries.same("how many of each", counts, ["3", "2", "1", "1"])
     tries.same("rt", [call for call in calls if call.startswith("bin/rt")], ["bin/rt fmt --check", "bin/rt ci"])
-    asked = {call.words[1] for part in PARTS for call in part.whole or part.calls if call.words[1:]}
-    tries.same("every test", asked - {"fmt", "build", "test"} <= set(calls), True)
-    tries.same("reasons of rt's edits", "tests/refusals.py" in calls, True)
+    tries.same("every test", TESTS - {call.split()[0] for call in calls}, set())
 
 
 def try_quick(tries):
@@ -130,11 +132,9 @@ def try_quick(tries):
 
 def try_failing(tries):
     """Whatever fails, no count is printed, and one line says what it is."""
-    for test in sorted({call.words[1] for part in PARTS for call in part.calls if call.words[1:]} - {"fmt", "build", "test"}):
-        status, out, err, _ = copied(tries, test, failing=(test,))
-        tries.same(test, (status, "passed, 0 failed" in out, err[:6], err.count("\n")), (1, False, "test: ", 1))
-    status, out, err, _ = copied(tries, "bindings", failing=("tests/bindings.sh",))
-    tries.same("tests/bindings.sh", (status, "passed, 0 failed" in out), (1, False))
+    for name in sorted(TESTS | {"bin/cargo", "tools/program"}):
+        status, out, err, _ = copied(tries, name, failing=(name,))
+        tries.same(name, (status, "passed, 0 failed" in out, err[:6], err.count("\n")), (1, False, "test: ", 1))
     for name, lines, ends in (
         ("a crate that fails", RT_LINES.replace("5 passed, 0", "4 passed, 1"), 1),
         ("no count", RT_LINES.replace("5 passed, 0 failed\n", ""), 0),
@@ -153,8 +153,7 @@ def try_progress(tries):
     with tempfile.TemporaryDirectory() as folder:
         copy = Copy(folder)
         copy.put("bin/rt", 'case $1 in fmt) exit ;; esac\necho early\necho second\nwhile [ ! -e go ]; do sleep 0.1; done\nexit 1\n')
-        env = {**os.environ, "PATH": "%s:%s" % (copy.folder / "bin", os.environ["PATH"])}
-        (copy.folder / "bin" / "python3").unlink()
+        env = {**os.environ, "PATH": copy.path}
         with subprocess.Popen([copy.folder / "test"], stdout=subprocess.PIPE, stderr=subprocess.DEVNULL, env=env) as process:
             seen = next((line for line in process.stdout if line == b"early\n"), None)
             tries.same("a line as it comes", (seen, process.poll()), (b"early\n", None))

@@ -30,6 +30,11 @@ def cargo(verb, complaint):
     return Call(("cargo", verb, *words), complaint)
 
 
+def built(program):
+    """So that the tests meet it as a user does who has called it before."""
+    return Call(("tools/program", "--words", program), "the program %s cannot be had" % program)
+
+
 def random(*counts):
     said = "the two models differ on a random file or step"
     return tuple(python(said, "tests/compare.py", what, str(seed), str(count)) for what, seed, count in counts)
@@ -84,6 +89,8 @@ PARTS = (
         "./clock on a script and on a folder, and what README prints",
         (
             MODEL,
+            built("clock"),
+            built("explain"),
             python("./clock does not do what it should", "tests/clock.py"),
             python("./clock does not do what it should with a folder", "tests/folder.py"),
             python("a page's commands do not print what stands there", "tests/readme.py"),
@@ -104,6 +111,9 @@ PARTS = (
         "explained",
         "runs explained, in facts, words and pictures",
         (
+            MODEL,
+            built("clock"),
+            built("explain"),
             python("the two models differ on what happened", "tests/facts.py"),
             python("an explained run is not worded as it should be", "tests/words.py"),
             python("a run is not drawn as it should be", "tests/picture.py"),
