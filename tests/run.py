@@ -38,6 +38,7 @@ COUNT = re.compile(r"[1-9][0-9]* passed, 0 failed")
 # A folder of Linux whose files are held in memory.
 MEMORY = "/dev/shm"
 GIB = 2**30
+PROCESSORS = os.cpu_count() or 1
 PROOFS, EDITS, PROGRAMS = "proofs", "rt's must-fail edits", "programs"
 # One part's output at a time.
 SHOWING = threading.Lock()
@@ -86,7 +87,8 @@ def tried_all(parts, whole=False):
         if part.wide or len(parts) == 1:
             say(part.about)
             took[part.name] = tried(part, whole)
-    with ThreadPoolExecutor(os.cpu_count() or 1) as pool:
+    # One more than there are processors, since some parts mostly wait.
+    with ThreadPoolExecutor(PROCESSORS + 1) as pool:
         begun = {part.name: pool.submit(aside, part, whole) for part in parts if part.name not in took}
         try:
             for name, done in begun.items():
@@ -170,7 +172,7 @@ class Row(NamedTuple):
 
 def show(rows):
     """What took how long. A part that is tried beside others takes longer than it would alone."""
-    say("seconds on %d processors, with %s checks at a time:" % (os.cpu_count() or 1, os.environ["RT_JOBS"]))
+    say("seconds on %d processors, where rt has %s checks at a time:" % (PROCESSORS, os.environ["RT_JOBS"]))
     for row in rows:
         say("  %-24s%6d  %s" % (row.name, row.seconds, row.about))
 
@@ -186,8 +188,8 @@ def settings():
     """How many checks at a time, and a temporary folder in memory, where there is room: the prover copies much into it."""
     os.environ["CARGO_TARGET_DIR"] = os.path.abspath("harness/target")
     memory = os.sysconf("SC_PAGE_SIZE") * os.sysconf("SC_PHYS_PAGES")
-    # Three for each processor, since those begun together wait for each other; one takes up to 2 GiB.
-    os.environ.setdefault("RT_JOBS", str(max(1, min(3 * (os.cpu_count() or 1), memory // (3 * GIB)))))
+    # Two for each processor, since rt waits for all that it has begun together; one takes up to 2 GiB.
+    os.environ.setdefault("RT_JOBS", str(max(1, min(2 * PROCESSORS, memory // (3 * GIB)))))
     if "TMPDIR" in os.environ or not has_room():
         yield
         return

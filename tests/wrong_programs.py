@@ -212,13 +212,19 @@ def is_tried(crate, edits, folder):
 
 # The call
 
+def count(word):
+    """A number of jobs."""
+    if not word.isdecimal() or int(word) == 0:
+        raise argparse.ArgumentTypeError("this is a number, 1 or more")
+    return int(word)
+
+
 def options():
     parser = argparse.ArgumentParser(description=__doc__.partition("\n")[0])
-    jobs = int(os.environ.get("RT_JOBS") or min(os.cpu_count() or 1, 4))
     parser.add_argument("--alone", action="store_true", help="try each edit in a copy of its own")
     parser.add_argument("--again", action="store_true", help="try also those of crates that have not changed since")
     parser.add_argument("--rt", action="store_true", help="try rt's must-fail edits instead")
-    parser.add_argument("--jobs", type=int, default=jobs, help="checks at a time")
+    parser.add_argument("--jobs", type=count, default=os.cpu_count() or 1, help="checks at a time")
     parser.add_argument("--edits", metavar="FOLDER", help="the edits in FOLDER/NAME instead of those in crates/NAME/wrong")
     parser.add_argument("wanted", nargs="*", metavar="NAME", help="a crate, or NAME/LABEL, one edit of it")
     return parser.parse_args()
@@ -228,8 +234,10 @@ def listed(asked, folder):
     """The edits that a call asks for."""
     pattern = "*/*.edit" if asked.edits else "*/%s/*.edit" % folder
     top = Path(asked.edits) if asked.edits else CRATES
-    files = sorted(top.glob(pattern))
-    edits = [texts.read(file.relative_to(top).parts[0], file) for file in files]
+    edits = [texts.read(file.relative_to(top).parts[0], file) for file in sorted(top.glob(pattern))]
+    strays = [file for file in top.glob(pattern.replace("*.edit", "*")) if not (file.is_file() and file.suffix == ".edit")]
+    if strays:
+        raise Missing("%s is no edit" % strays[0])
     for name in asked.wanted:
         if not any(name in (e.crate, e.name) for e in edits):
             raise Missing("there is no edit %s" % name)

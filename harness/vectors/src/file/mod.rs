@@ -10,7 +10,7 @@ mod tests;
 use placed::Placed;
 use reference::LINE_BYTES;
 
-/// The most that the test program can lend.
+/// What a run is lent at most; the lines of every file fit.
 pub const LARGEST_ROOM: usize = 20_472;
 
 /// A script file, and the lengths of the outputs it is run with.
