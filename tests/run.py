@@ -23,8 +23,8 @@ Without a word everything is tried, from nothing: `rt ci` removes target/, prove
 edits and runs the programs; then come all the parts below. A table says how long each took. The last line is rt's
 count, `N passed, 0 failed`, and it is printed only if all of it passed.
 
-  quick   everything over what is built: rt proves again only what has changed, wrong programs are tried of the crates
-          that have changed since they were last tried, and fewer random files and steps are compared
+  quick   everything over what is built: rt proves again only what has changed, wrong programs are tried where they or
+          their crates have changed since they were refused, and fewer random files and steps are compared
   PART    these parts alone, as quick has them
 
 The parts:
@@ -217,7 +217,8 @@ def everything(whole):
     took.update(tried_all(PARTS[BEFORE_RT:], whole))
     wrong = took.pop("wrong")
     spent = time.monotonic() - began
-    rows += [Row("wrong programs", wrong, str(len(list(Path("crates").glob("*/wrong/*.edit")))))]
+    edits = Path("crates").glob("*/wrong/*.edit" if whole else "*/*/*.edit")
+    rows += [Row("wrong programs", wrong, str(len(list(edits))))]
     rows += [Row("tests", spent - sum(row.seconds for row in rows), seconds(took))]
     show(rows + [Row("all", spent, "%d min %d s" % divmod(spent, 60))])
     print(last or "test: quick: all parts passed", flush=True)

@@ -32,6 +32,7 @@ from refusals import errors, misplaced, unsaid
 BUILT = Path("target/rlib")
 STAMPS = Path("target/stamp")
 PLACE = Path("target/wrong")
+SEALS = PLACE / "refused"
 OWN = ("wrong_programs.py", "edits.py", "refusals.py")
 
 
@@ -190,24 +191,23 @@ def judged(edits, jobs, apart):
 
 # What was tried before
 
-def seal(crate, edits):
-    """A digest of all that the verdicts on a crate's edits hang on."""
-    stamp = STAMPS / crate
+def seal(edit):
+    """A digest of all that the verdict on an edit hangs on."""
+    stamp = STAMPS / edit.crate
     if not stamp.is_file():
-        raise Missing("%s is not proved: run rt check" % crate)
+        raise Missing("%s is not proved: run rt check" % edit.crate)
     parts = [stamp.read_text()] + [(Path(__file__).parent / own).read_text(encoding="utf-8") for own in OWN]
-    parts += [edit.name + "\n" + edit.text for edit in edits if edit.crate == crate]
-    return hashlib.sha256("\0".join(parts).encode()).hexdigest()
+    return hashlib.sha256("\0".join([*parts, edit.name, edit.text]).encode()).hexdigest()
 
 
-def sealed(crate, folder):
-    return PLACE / ("%s.%s.tried" % (crate, folder))
+def sealed():
+    """The seals of edits that were refused for their reason."""
+    return set(SEALS.read_text().split()) if SEALS.is_file() else set()
 
 
-def is_tried(crate, edits, folder):
-    """Whether the same edits of the same crate were all refused before."""
-    file = sealed(crate, folder)
-    return file.is_file() and file.read_text() == seal(crate, edits)
+def remember(edits):
+    PLACE.mkdir(parents=True, exist_ok=True)
+    SEALS.write_text("".join("%s\n" % seal for seal in sorted(sealed() | set(map(seal, edits)))))
 
 
 # The call
@@ -222,22 +222,26 @@ def count(word):
 def options():
     parser = argparse.ArgumentParser(description=__doc__.partition("\n")[0])
     parser.add_argument("--alone", action="store_true", help="try each edit in a copy of its own")
-    parser.add_argument("--again", action="store_true", help="try also those of crates that have not changed since")
-    parser.add_argument("--rt", action="store_true", help="try rt's must-fail edits instead")
+    parser.add_argument("--again", action="store_true", help="try those too that were refused before and have not changed")
+    parser.add_argument("--rt", action="store_true", help="try rt's must-fail edits too")
     parser.add_argument("--jobs", type=count, default=os.cpu_count() or 1, help="checks at a time")
     parser.add_argument("--edits", metavar="FOLDER", help="the edits in FOLDER/NAME instead of those in crates/NAME/wrong")
     parser.add_argument("wanted", nargs="*", metavar="NAME", help="a crate, or NAME/LABEL, one edit of it")
     return parser.parse_args()
 
 
-def listed(asked, folder):
+def listed(asked):
     """The edits that a call asks for."""
-    pattern = "*/*.edit" if asked.edits else "*/%s/*.edit" % folder
     top = Path(asked.edits) if asked.edits else CRATES
-    edits = [texts.read(file.relative_to(top).parts[0], file) for file in sorted(top.glob(pattern))]
-    strays = [file for file in top.glob(pattern.replace("*.edit", "*")) if not (file.is_file() and file.suffix == ".edit")]
+    folders = ["*"] if asked.edits else ["*/wrong", "*/must-fail"][: 1 + asked.rt]
+    files = sorted(file for folder in folders for file in top.glob(folder + "/*"))
+    strays = [file for file in files if not (file.is_file() and file.suffix == ".edit")]
     if strays:
         raise Missing("%s is no edit" % strays[0])
+    edits = [texts.read(file.relative_to(top).parts[0], file) for file in files]
+    twice = [e.name for at, e in enumerate(edits) if e.name in [other.name for other in edits[:at]]]
+    if twice:
+        raise Missing("two edits are called %s" % twice[0])
     for name in asked.wanted:
         if not any(name in (e.crate, e.name) for e in edits):
             raise Missing("there is no edit %s" % name)
@@ -249,20 +253,16 @@ def listed(asked, folder):
 def main():
     began = time.monotonic()
     asked = options()
-    folder = "must-fail" if asked.rt else "wrong"
-    edits = listed(asked, folder)
-    fresh = asked.again or asked.alone or asked.edits or asked.wanted
-    kept = set() if fresh else {c for c in {e.crate for e in edits} if is_tried(c, edits, folder)}
-    todo = [e for e in edits if e.crate not in kept]
+    edits = listed(asked)
+    before = set() if asked.again or asked.alone or asked.edits or asked.wanted else sealed()
+    todo = [e for e in edits if seal(e) not in before]
+    if len(todo) < len(edits):
+        print("%d wrong programs were refused before and have not changed" % (len(edits) - len(todo)))
     bad, checks = judged(todo, asked.jobs, asked.alone) if todo else ({}, 0)
     for edit in todo:
         if edit in bad:
             print("%s: %s" % (edit.name, bad[edit]))
-    whole = {e.crate for e in todo} - {e.crate for e in bad} if not (asked.edits or asked.wanted) else ()
-    for crate in whole:
-        sealed(crate, folder).write_text(seal(crate, edits))
-    if kept:
-        print("%d wrong programs of %d crates are as they were last tried" % (len(edits) - len(todo), len(kept)))
+    remember(e for e in todo if e not in bad and not asked.edits)
     counts = len(todo) - len(bad), len(todo), checks, time.monotonic() - began
     print("%d of %d wrong programs were refused for their reason, in %d checks, %d s" % counts)
     return 1 if bad else 0
