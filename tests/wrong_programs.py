@@ -15,6 +15,7 @@ The exit status is 1 where an edit is not refused, or not where it says, and 2 w
 """
 
 import argparse
+import functools
 import hashlib
 import os
 import re
@@ -26,7 +27,7 @@ from concurrent.futures import ThreadPoolExecutor
 from pathlib import Path
 
 import edits as texts
-from edits import CRATES, Bad
+from edits import CRATES, PARTS, Bad
 from refusals import errors, misplaced, unsaid
 
 BUILT = Path("target/rlib")
@@ -191,13 +192,21 @@ def judged(edits, jobs, apart):
 
 # What was tried before
 
+@functools.lru_cache(maxsize=None)
+def ground(crate):
+    """A digest of all that the verdicts on a crate's edits hang on: this test, the crate, and what rt has proved of it."""
+    files = [Path(__file__).parent / own for own in OWN] + [STAMPS / crate]
+    files += sorted(file for part in PARTS for file in (CRATES / crate / part).rglob("*") if file.is_file())
+    if not (STAMPS / crate).is_file():
+        raise Missing("%s is not proved: run rt check" % crate)
+    digest = hashlib.sha256()
+    for file in files:
+        digest.update(b"%s\0%s\0" % (os.fsencode(file.name), file.read_bytes()))
+    return digest.hexdigest()
+
+
 def seal(edit):
-    """A digest of all that the verdict on an edit hangs on."""
-    stamp = STAMPS / edit.crate
-    if not stamp.is_file():
-        raise Missing("%s is not proved: run rt check" % edit.crate)
-    parts = [stamp.read_text()] + [(Path(__file__).parent / own).read_text(encoding="utf-8") for own in OWN]
-    return hashlib.sha256("\0".join([*parts, edit.name, edit.text]).encode()).hexdigest()
+    return hashlib.sha256("\0".join([ground(edit.crate), edit.name, edit.text]).encode()).hexdigest()
 
 
 def sealed():
