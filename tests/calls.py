@@ -11,7 +11,7 @@ import tempfile
 import time
 from pathlib import Path
 
-from clock import PATIENCE, ROOT, Tries, cloned
+from clock import PATIENCE, ROOT, Tries, cloned, wait_for
 from parts import PARTS, REFUSALS
 
 # What rt prints in a run from nothing: two libraries and a program, an edit of each library.
@@ -160,6 +160,25 @@ def try_progress(tries):
             (copy.folder / "go").touch()
 
 
+def try_stopped(tries):
+    """A run that is stopped ends all that it has begun, and leaves no temporary folder."""
+    with tempfile.TemporaryDirectory() as folder:
+        copy = Copy(folder)
+        # A child would make the folder anew if it lived on; it also notes that it lives.
+        busy = '(while :; do mkdir -p "$TMPDIR/a"; date >"$TMPDIR/a/$(date +%N)"; date +%N >beat; done) &\nwait\n'
+        copy.put("bin/rt", 'case $1 in fmt) exit ;; esac\necho "$TMPDIR" >folder\n' + busy)
+        env = {name: value for name, value in os.environ.items() if name != "TMPDIR"}
+        process = subprocess.Popen([copy.folder / "test"], stdout=subprocess.DEVNULL, env={**env, "PATH": copy.path})
+        wait_for(copy.folder / "beat")
+        process.terminate()
+        tries.same("stopped", process.wait(timeout=PATIENCE), 1)
+        beat = (copy.folder / "beat").read_text()
+        time.sleep(0.3)
+        tries.same("its child", (copy.folder / "beat").read_text(), beat)
+        used = (copy.folder / "folder").read_text().strip()
+        tries.same("its folder %s" % used, bool(used) and Path(used).exists(), False)
+
+
 # tools/program
 
 def try_program(tries):
@@ -198,8 +217,10 @@ def try_how_far(tries):
 
 def main():
     tries = Tries("tests/calls.py")
-    for group in (try_words, try_missing, try_whole, try_quick, try_failing, try_progress, try_program, try_how_far):
+    for group in (try_words, try_missing, try_whole, try_quick, try_failing, try_progress, try_stopped):
         group(tries)
+    try_program(tries)
+    try_how_far(tries)
     return 1 if tries.failed else 0
 
 

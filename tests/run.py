@@ -42,6 +42,8 @@ PROCESSORS = os.cpu_count() or 1
 PROOFS, EDITS, PROGRAMS = "proofs", "rt's must-fail edits", "programs"
 # One part's output at a time.
 SHOWING = threading.Lock()
+# The process groups of what was begun and has not ended.
+RUNNING = set()
 
 
 class Failed(Exception):
@@ -54,9 +56,28 @@ def say(line):
     print("test: %s" % line, flush=True)
 
 
+@contextlib.contextmanager
+def begun(words, **options):
+    """A command in a process group of its own, so that all of it can be ended."""
+    with subprocess.Popen(words, stdin=subprocess.DEVNULL, start_new_session=True, **options) as process:
+        RUNNING.add(process.pid)
+        try:
+            yield process
+        finally:
+            RUNNING.discard(process.pid)
+
+
+def end_all():
+    """Nothing that was begun outlives this, or writes into the temporary folder while that is removed."""
+    for group in list(RUNNING):
+        with contextlib.suppress(ProcessLookupError):
+            os.killpg(group, signal.SIGKILL)
+
+
 def called(call, **options):
-    if subprocess.run(call.words, stdin=subprocess.DEVNULL, **options).returncode != 0:
-        raise Failed(call.complaint)
+    with begun(call.words, **options) as process:
+        if process.wait() != 0:
+            raise Failed(call.complaint)
 
 
 def tried(part, whole, **options):
@@ -122,8 +143,7 @@ def watched(*words):
     """Shows rt's output as it comes, but for its last line."""
     done = Watched("", {}, {})
     phase, held = PROOFS, b""
-    pipes = {"stdin": subprocess.DEVNULL, "stdout": subprocess.PIPE, "stderr": subprocess.STDOUT}
-    with subprocess.Popen(["rt", *words], **pipes) as rt:
+    with begun(["rt", *words], stdout=subprocess.PIPE, stderr=subprocess.STDOUT) as rt:
         for line in rt.stdout:
             sys.stdout.buffer.write(held)
             sys.stdout.flush()
@@ -133,7 +153,7 @@ def watched(*words):
             done.ends[phase] = time.monotonic()
             done.counts[phase] = done.counts.get(phase, 0) + bool(about)
     last = held.decode("utf-8", "replace").rstrip("\n")
-    if rt.returncode != 0:
+    if rt.wait() != 0:
         # A count is held back, but where rt could not even begin its last line says why.
         if not re.fullmatch(r"[0-9]+ passed, [0-9]+ failed", last):
             print(last, file=sys.stderr)
@@ -232,10 +252,13 @@ def some(names):
 def judged(words):
     """Tries what the words of a call ask for."""
     with settings():
-        if not words or words == ["quick"]:
-            everything(not words)
-        else:
-            some(words)
+        try:
+            if not words or words == ["quick"]:
+                everything(not words)
+            else:
+                some(words)
+        finally:
+            end_all()
 
 
 def complaint(words):
@@ -267,14 +290,12 @@ def main(words):
 
 
 def stop(*_):
-    """What was begun is ended, and the temporary folder goes."""
+    """At once, since a thread may be waiting for what is under way."""
+    end_all()
     sys.exit(1)
 
 
 if __name__ == "__main__":
-    for name in (signal.SIGTERM, signal.SIGHUP):
+    for name in (signal.SIGINT, signal.SIGTERM, signal.SIGHUP):
         signal.signal(name, stop)
-    try:
-        sys.exit(main(sys.argv[1:]))
-    except KeyboardInterrupt:
-        sys.exit(130)
+    sys.exit(main(sys.argv[1:]))
