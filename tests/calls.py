@@ -179,6 +179,24 @@ def try_stopped(tries):
         tries.same("its folder %s" % used, bool(used) and Path(used).exists(), False)
 
 
+def try_stopped_beside(tries):
+    """Where parts are tried beside each other nothing more is begun, and nobody is waited for."""
+    with tempfile.TemporaryDirectory() as folder:
+        copy = Copy(folder)
+        slow = 'import time\nopen("begun", "a").close()\ntime.sleep(20)\nopen("over", "w").close()\n'
+        for name in (name for name in TESTS if name.endswith(".py")):
+            (copy.folder / name).write_text(slow)
+        # More than are begun at once.
+        words = [part.name for part in PARTS if not part.wide]
+        options = {"stdout": subprocess.DEVNULL, "stderr": subprocess.DEVNULL, "env": {**os.environ, "PATH": copy.path}}
+        process = subprocess.Popen([copy.folder / "test", *words], **options)
+        wait_for(copy.folder / "begun")
+        began = time.monotonic()
+        process.terminate()
+        tries.same("stopped beside others", process.wait(timeout=PATIENCE), 1)
+        tries.same("at once", (time.monotonic() - began < 10, (copy.folder / "over").exists()), (True, False))
+
+
 # tools/program
 
 def try_program(tries):
@@ -217,10 +235,10 @@ def try_how_far(tries):
 
 def main():
     tries = Tries("tests/calls.py")
-    for group in (try_words, try_missing, try_whole, try_quick, try_failing, try_progress, try_stopped):
+    for group in (try_words, try_missing, try_whole, try_quick, try_failing, try_progress):
         group(tries)
-    try_program(tries)
-    try_how_far(tries)
+    for group in (try_stopped, try_stopped_beside, try_program, try_how_far):
+        group(tries)
     return 1 if tries.failed else 0
 
 

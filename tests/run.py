@@ -42,8 +42,11 @@ PROCESSORS = os.cpu_count() or 1
 PROOFS, EDITS, PROGRAMS = "proofs", "rt's must-fail edits", "programs"
 # One part's output at a time.
 SHOWING = threading.Lock()
-# The process groups of what was begun and has not ended.
+# The process groups of what was begun and has not ended, and whether nothing more is to be begun.
 RUNNING = set()
+STOPPING = threading.Event()
+# A signal can come to the thread that holds it.
+BEGINNING = threading.RLock()
 
 
 class Failed(Exception):
@@ -59,8 +62,12 @@ def say(line):
 @contextlib.contextmanager
 def begun(words, **options):
     """A command in a process group of its own, so that all of it can be ended."""
-    with subprocess.Popen(words, stdin=subprocess.DEVNULL, start_new_session=True, **options) as process:
+    with BEGINNING:
+        if STOPPING.is_set():
+            raise Failed("stopped")
+        process = subprocess.Popen(words, stdin=subprocess.DEVNULL, start_new_session=True, **options)
         RUNNING.add(process.pid)
+    with process:
         try:
             yield process
         finally:
@@ -69,9 +76,11 @@ def begun(words, **options):
 
 def end_all():
     """Nothing that was begun outlives this, or writes into the temporary folder while that is removed."""
-    for group in list(RUNNING):
-        with contextlib.suppress(ProcessLookupError):
-            os.killpg(group, signal.SIGKILL)
+    with BEGINNING:
+        STOPPING.set()
+        for group in RUNNING:
+            with contextlib.suppress(ProcessLookupError):
+                os.killpg(group, signal.SIGKILL)
 
 
 def called(call, **options):
@@ -114,7 +123,7 @@ def tried_all(parts, whole=False):
         try:
             for name, done in begun.items():
                 took[name] = done.result()
-        except Failed:
+        except BaseException:
             pool.shutdown(cancel_futures=True)
             raise
     return took
