@@ -15,7 +15,7 @@ use Rattle.fields.specs.Times.{legalTimeOf, secondOf}
 use Rattle.dates.specs.Months.{leapOf, lastDayOf, daysOf, firstDayOf}
 use Rattle.dates.specs.Dates.{legalDateOf, dayOf}
 use Rattle.registers.specs.Fixed.{keptOf, keptTime, keptAlarm, keptControl, clearOf, clearTimeOf}
-use Rattle.registers.specs.Seven.{withByteOf, bytesOf}
+use Rattle.registers.specs.Seven.{withByteOf}
 use Rattle.hand.specs.Trim.{lengthOf, changeOf}
 use Rattle.hand.specs.Hand as hand
 use Rattle.hand.specs.Span.{Legal}
@@ -58,9 +58,17 @@ bytesBy (e ∷ es) = e .kind ∷ e .byte ∷ (word (e .count) ++ bytesBy es)
 abbrev set : Time
 set = record { seconds = 0x00; minutes = 0x15; hours = 0x29; weekday = 0x03; day = 0x20; month = 0x12; year = 0x06 }
 
--- a byte stored in the RAM, 300 pulses, and the START of the reading
+-- START, 64h and 00h
+abbrev pointing : List Event
+pointing = start ∷ byte 0x64 ∷ byte 0x00 ∷ []
+
+-- the bytes after the seconds
+abbrev sending : List Event
+sending = byte 0x15 ∷ byte 0x29 ∷ byte 0x03 ∷ byte 0x20 ∷ byte 0x12 ∷ byte 0x06 ∷ []
+
+-- STOP, a byte stored in the RAM, 300 pulses, and the START of the reading
 abbrev traffic : List Event
-traffic = writes 0x14 (0x5A ∷ []) ++ (pulses 300 ∷ start ∷ [])
+traffic = stop ∷ writes 0x14 (0x5A ∷ []) ++ (pulses 300 ∷ start ∷ [])
 
 -- six reads with ACK
 abbrev reading : List Event
@@ -68,7 +76,7 @@ reading = ack ∷ ack ∷ ack ∷ ack ∷ ack ∷ ack ∷ []
 
 -- the whole script: unlocked, set, other traffic, read back
 abbrev listed : List Event
-listed = unlocks ++ writes 0x00 (bytesOf set) ++ traffic ++ (byte 0x65 ∷ reading) ++ (nak ∷ stop ∷ [])
+listed = (unlocks ++ pointing) ++ (byte 0x00 ∷ sending) ++ traffic ++ (byte 0x65 ∷ reading) ++ (nak ∷ stop ∷ [])
 
 -- the header, the start bytes from 8 on, the events from 27 on
 abbrev pub file : List ℕ
@@ -88,16 +96,22 @@ pub scripted : Scripted file set
 unfolding unlocks writes listedFrom spared after pulsesIn spoken stepOf eventOf refusalOf wellFormedOf hand.wellOf alarm.wellOf countdown.wellOf lock.wellOf control.wellOf keptOf keptTime keptAlarm keptControl clearOf clearTimeOf powerOnOf poweredOf stoppedOf byteOf heardOf writeOf lock.writtenOf hand.storedOf alarm.storedOf countdown.storedOf control.storedOf withByteOf times pulseOf hand.tickedOf alarm.rungOf countdown.countedOf lengthOf changeOf
 scripted =
     record {
-      before = unlocks;
+      before = unlocks ++ pointing;
       run =
           record {
             setting =
                 record {
-                  unlocked = record { wrtc1 = refl; wrtc2 = refl; wrtc3 = refl };
-                  pointing = byte 0x64 ∷ byte 0x00 ∷ [];
-                  points = refl;
-                  rest = byte 0x15 ∷ byte 0x29 ∷ byte 0x03 ∷ byte 0x20 ∷ byte 0x12 ∷ byte 0x06 ∷ [];
-                  sets = refl;
+                  pointed =
+                      record {
+                        transfer = record { age = 0; marked = false };
+                        writes = refl;
+                        pointer = refl;
+                        unlocked = record { wrtc1 = refl; wrtc2 = refl; wrtc3 = refl };
+                      };
+                  sent = set;
+                  kept = refl;
+                  rest = sending;
+                  six = refl;
                   timely = ltb→lt _ _ tt;
                 };
             traffic = traffic;

@@ -68,17 +68,22 @@ unlocking =
     start ∷ byte 0x64 ∷ byte 0x10 ∷ byte 0x80 ∷ stop ∷ start ∷ byte 0x64 ∷ byte 0x0F ∷ byte 0x84 ∷ stop ∷ start ∷ byte 0x64 ∷ byte 0x12
     ∷ byte 0x42 ∷ stop ∷ []
 
--- between START and the seconds, and between these and STOP
+-- START, 64h and 1Fh: a byte stored there leads on to 00h
 abbrev pub pointing : List Event
-pointing = pulses 7 ∷ byte 0x64 ∷ unknown ∷ byte 0x00 ∷ pulses 2 ∷ []
+pointing = start ∷ pulses 7 ∷ byte 0x64 ∷ unknown ∷ byte 0x1F ∷ byte 0x77 ∷ pulses 2 ∷ []
+
+-- the seven bytes of the time with every fixed bit set, and reads among those that follow the seconds
+abbrev sent : Time
+sent = record { seconds = 0xC0; minutes = 0xD9; hours = 0x71; weekday = 0xFE; day = 0xE8; month = 0xE2; year = 0x00 }
 
 abbrev pub sending : List Event
-sending = byte 0x59 ∷ pulses 100 ∷ byte 0x31 ∷ byte 0x06 ∷ byte 0x28 ∷ unknown ∷ byte 0x02 ∷ pulses 44 ∷ byte 0x00 ∷ []
+sending =
+    ack ∷ byte 0xD9 ∷ pulses 100 ∷ byte 0x71 ∷ byte 0xFE ∷ byte 0xE8 ∷ unknown ∷ nak ∷ byte 0xE2 ∷ pulses 44 ∷ byte 0x00 ∷ []
 
 -- a byte stored in the RAM and one at 07h, the lock closed, a byte lost at 00h
 abbrev pub chatter : List Event
 chatter =
-    start ∷ byte 0x64 ∷ byte 0x14 ∷ byte 0x5A ∷ start ∷ byte 0x64 ∷ byte 0x07 ∷ byte 0x33 ∷ stop ∷ start ∷ byte 0x64 ∷ byte 0x10 ∷ byte 0x00
+    stop ∷ start ∷ byte 0x64 ∷ byte 0x14 ∷ byte 0x5A ∷ start ∷ byte 0x64 ∷ byte 0x07 ∷ byte 0x33 ∷ stop ∷ start ∷ byte 0x64 ∷ byte 0x10 ∷ byte 0x00
     ∷ start ∷ byte 0x64 ∷ byte 0x00 ∷ byte 0x30 ∷ unknown ∷ []
 
 -- the transfer times out, a read of a closed bus, and a new START
@@ -87,7 +92,7 @@ traffic = chatter ++ (pulses 32500 ∷ ack ∷ start ∷ [])
 
 -- the state that is set, and the time: 31h:59:40, weekday 6, 28-02-00; and the time one second later
 abbrev pub ready : Clock
-ready = after step powered unlocking
+ready = after step powered (unlocking ++ pointing)
 
 abbrev set : Time
 set = record { seconds = 0x40; minutes = 0x59; hours = 0x31; weekday = 0x06; day = 0x28; month = 0x02; year = 0x00 }
@@ -95,9 +100,9 @@ set = record { seconds = 0x40; minutes = 0x59; hours = 0x31; weekday = 0x06; day
 abbrev pub later : Time
 later = record { seconds = 0x41; minutes = 0x59; hours = 0x31; weekday = 0x06; day = 0x28; month = 0x02; year = 0x00 }
 
--- six reads with ACK
+-- six reads with ACK, and a master's byte among them
 abbrev pub reading : List Event
-reading = ack ∷ ack ∷ pulses 9 ∷ ack ∷ unknown ∷ ack ∷ ack ∷ ack ∷ pulses 3 ∷ []
+reading = ack ∷ ack ∷ pulses 9 ∷ ack ∷ unknown ∷ ack ∷ byte 0x64 ∷ ack ∷ ack ∷ pulses 3 ∷ []
 
 -- what promise 3 leaves out, as tests
 abbrev writing : Phase → Bool
@@ -144,11 +149,17 @@ witness =
     record {
       setting =
           record {
-            unlocked = record { wrtc1 = refl; wrtc2 = refl; wrtc3 = refl };
-            pointing = pointing;
-            points = refl;
+            pointed =
+                record {
+                  transfer = record { age = 9; marked = false };
+                  writes = refl;
+                  pointer = refl;
+                  unlocked = record { wrtc1 = refl; wrtc2 = refl; wrtc3 = refl };
+                };
+            sent = sent;
+            kept = refl;
             rest = sending;
-            sets = refl;
+            six = refl;
             timely = ltb→lt _ _ tt;
           };
       traffic = traffic;
@@ -178,7 +189,8 @@ pub record Computed : Type 0 where
   -- a trim of 42h, and just the pulses of a second of 32,644
   pub trim : registerOf ready 0x12 ≡ 0x42
   pub between : pulsesSince (witness .setting) (witness .traffic) ≡ 32644
-  -- 07h and 14h have what was stored, 00h does not have the byte that was lost, and the lock is closed
+  -- 1Fh, 07h and 14h have what was stored, 00h does not have the byte that was lost, and the lock is closed
+  pub wrapped : registerOf ready 0x1F ≡ 0x77
   pub alarm : registerOf said 0x07 ≡ 0x33
   pub ram : registerOf said 0x14 ≡ 0x5A
   pub seconds : registerOf said 0x00 ≡ 0x40
@@ -190,7 +202,7 @@ pub record Computed : Type 0 where
 
 pub witness-computed : Computed
 unfolding witness after pulsesIn spoken stepOf eventOf refusalOf wellFormedOf hand.wellOf alarm.wellOf countdown.wellOf lock.wellOf control.wellOf keptOf keptTime keptAlarm keptControl clearOf clearTimeOf powerOnOf poweredOf stoppedOf byteOf heardOf writeOf lock.writtenOf hand.storedOf alarm.storedOf countdown.storedOf control.storedOf ramStoredOf withByteOf readOf reads.readOf renewedOf shownOf registerOf pinOf times pulseOf hand.tickedOf alarm.rungOf countdown.countedOf advanceOf lengthOf changeOf lock.ctr2Of controlAtOf byteAtOf readsOf digits.stepOf codes placeOf hourNumberOf hourByteOf nextHourOf nextTimeOf midnightOf nextDateOf leapOf lastDayOf
-witness-computed = record { trim = refl; between = refl; alarm = refl; ram = refl; seconds = refl; lock = refl; late = refl; time = refl }
+witness-computed = record { trim = refl; between = refl; wrapped = refl; alarm = refl; ram = refl; seconds = refl; lock = refl; late = refl; time = refl }
 
 -- so the seven bytes are those of one second later
 pub witness-read : readBack witness ≡ shownBy later
@@ -204,7 +216,7 @@ legal = record { number = refl; weekday = omega arith }
 
 -- the same run by steps, which read the same bytes
 ready-well : wellFormedOf ready ≡ true
-ready-well = whole ready (steps-well powered (power-on-well started) unlocking)
+ready-well = whole ready (steps-well powered (power-on-well started) (unlocking ++ pointing))
 
 pub stepped : Kept step ready set
 stepped = by-steps ready ready-well witness

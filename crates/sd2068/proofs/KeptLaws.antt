@@ -34,7 +34,7 @@ module _ (c : Clock) (t : Time) (k : ℕ) (l : Legal t k) (s : Setting c t) (es 
   asked-hand =
       let n = pulsesIn (s .rest) in
       let more : n ≡ 0 + n = omega arith in
-      let set = set-hand c t k l s ∙ ap (λ (x : ℕ). record { time = t; counter = x; trim = c .hand .trim }) more ∙ sym (few-ticks begun n (omega (arith, s .timely))) in
+      let set = set-hand c t s ∙ ap (λ (x : ℕ). record { time = t; counter = x; trim = c .hand .trim }) more ∙ sym (few-ticks begun n (omega (arith, s .timely))) in
       traffic-hand spares ∙ ap (times tickedOf (pulsesIn es)) set ∙ times-add tickedOf n (pulsesIn es) begun
 
   -- a reading of the state that they come to

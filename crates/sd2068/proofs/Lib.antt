@@ -5,6 +5,7 @@ pub mod ListedLaws
 pub mod RowLaws
 pub mod PhaseLaws
 pub mod SpeechLaws
+pub mod UnheardLaws
 pub mod SettingLaws
 pub mod TrafficLaws
 pub mod ReadBackLaws

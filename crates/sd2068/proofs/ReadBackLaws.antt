@@ -24,22 +24,24 @@ use Rattle.sd2068.specs.Transfer.{latchedOf, renewedOf, readOf}
 use Rattle.sd2068.specs.Step.{eventOf}
 use Rattle.sd2068.proofs.GroupLaws.{pulses-latched}
 use Rattle.sd2068.specs.Kept as kept
-use Rattle.sd2068.specs.Run.{Machine, byte, ack, nak, takenOf, event, after, pulsesIn, readBy, readsOf}
+use Rattle.sd2068.specs.Run.{Machine, byte, ack, nak, takenOf, event, after, pulsesIn, readBy, byteBy, readsOf}
 use Rattle.sd2068.specs.Kept.{shownBy}
 use Rattle.sd2068.proofs.PhaseLaws.{at, hears-read, sends}
+use Rattle.sd2068.proofs.UnheardLaws.{byte-unheard, no-read}
 use Rattle.sd2068.proofs.SpeechLaws.{Stage, Leads, Path, Path.here as here, Path.then as then, Arrives, spaced, walk}
-use Rattle.sd2068.proofs.SettingLaws.{Listening, listening-on}
+use Rattle.sd2068.proofs.SettingLaws.{Listening, transferOf, listening-on}
 
 -- the chip reads at register i, and u is latched
 record Latched (u : Time) (i a : ℕ) (c : Clock) : Type 0 where
   listening : Listening Reading i a c
   latched : c .latched ≡ bytesOf u
 
-abbrev latched : Time → ℕ → Stage
+abbrev latched : Time → ℕ → Stage byteBy
 latched u i =
     record {
       Holds = Latched u i;
       waits = λ a n c h l. record { listening = listening-on (h .listening) n l; latched = pulses-latched n c ∙ h .latched };
+      ignores = λ a c e h r. byte-unheard c i (transferOf (h .listening)) e (h .listening .bus) r;
     }
 
 -- the two characters of byte i
@@ -65,7 +67,7 @@ module _ (u : Time) (i : ℕ) (low : i < 7) where
       ap (λ (r : Answered). textOf (r .answer)) (sends c i t more (h .listening .bus)) ∙ ap (λ (b : ℕ). textOf (Byte b)) (shown-latched c (h .latched))
 
   -- and one with ACK goes on to the next
-  next-read : Leads (latched u i) ack (character u i ∷ []) (latched u (i + 1))
+  next-read : Leads byteBy (latched u i) ack (character u i ∷ []) (latched u (i + 1))
   unfolding eventOf
   next-read =
       record {
@@ -99,7 +101,7 @@ reads-add m c (e ∷ es) fs =
 abbrev firstSix : Time → List (List ℕ)
 firstSix u = character u 0 ∷ character u 1 ∷ character u 2 ∷ character u 3 ∷ character u 4 ∷ character u 5 ∷ []
 
-six-read : (u : Time) → Path (latched u 0) (ack ∷ ack ∷ ack ∷ ack ∷ ack ∷ ack ∷ []) (firstSix u) (latched u 6)
+six-read : (u : Time) → Path byteBy (latched u 0) (ack ∷ ack ∷ ack ∷ ack ∷ ack ∷ ack ∷ []) (firstSix u) (latched u 6)
 six-read u =
     then (next-read u 0 (omega arith))
     (then (next-read u 1 (omega arith))
@@ -125,7 +127,7 @@ module _ (c : Clock) (r : kept.Reading c) where
 
   arrives : Arrives (latched u 6) (r .transfer .age) listens (r .reads) (firstSix u)
   arrives =
-      walk (spaced _ (r .reads) (r .six)) (six-read u) (r .transfer .age) listens
+      walk (spaced byteBy _ (r .reads) (r .six)) (six-read u) (r .transfer .age) listens
       (record { listening = record { marked = r .transfer .marked; bus = refl }; latched = refl }) (r .timely)
 
   pub read-acknowledged : event c (byte 0x65) .answer ≡ textOf Ack
@@ -136,6 +138,6 @@ module _ (c : Clock) (r : kept.Reading c) where
   read-shown =
       ap (λ (x : Answered). readsOf event (x .clock) (r .reads ++ (r .last ∷ []))) heard
       ∙ reads-add event listens (r .reads) (r .last ∷ [])
-      ∙ ap (λ (l : List (List ℕ)). l ++ readsOf event (after event listens (r .reads)) (r .last ∷ [])) (arrives .reads)
+      ∙ ap (λ (l : List (List ℕ)). l ++ readsOf event (after event listens (r .reads)) (r .last ∷ [])) (arrives .reads no-read)
       ∙ ap (λ (l : List (List ℕ)). firstSix u ++ l)
       (last-read u (r .transfer .age + pulsesIn (r .reads)) (after event listens (r .reads)) (r .last) (r .seventh) (arrives .holds))

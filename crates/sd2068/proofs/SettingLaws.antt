@@ -1,4 +1,4 @@
--- A setting leaves the time that it sets, and a counter that began anew with the seconds. Assumes nothing.
+-- A setting leaves what the registers keep of the bytes sent, and a counter that began anew with the seconds. Assumes nothing.
 use mathlib.Core.Path.{_≡_, refl, sym, ap, ap₂, _∙_, subst}
 use mathlib.Core.Bool.{Bool, true, false, cond}
 use mathlib.Core.List.{List, [], _∷_, _++_}
@@ -6,18 +6,14 @@ use Prim.Native.Nat.{ℕ, zero, suc, _+_, _≤_, _<_}
 use native.Mathlib.Nat.{add-zero}
 use native.Mathlib.Omega.{arith}
 use lib.Dec.{ltb}
-use borrow.Author.Tests.{eqb-true, ne-eqb, lt-ltb}
+use borrow.Author.Tests.{ne-eqb, lt-ltb}
 use Rattle.calendar.specs.declared.time.Time.{Time}
 use Rattle.calendar.specs.Repeat.{times}
-use Rattle.calendar.proofs.FixedLaws.{legal-clear}
-use Rattle.calendar.proofs.MomentLaws.{number-moment}
-use Rattle.registers.specs.Fixed.{keptOf, clearOf}
+use Rattle.registers.specs.Fixed.{keptOf}
 use Rattle.registers.specs.Seven.{withByteOf}
-use Rattle.registers.proofs.FixedLaws.{Bytes, time-bytes, clear-time}
 use Rattle.hand.specs.declared.hand.Hand.{Hand}
 use Rattle.hand.specs.Hand as hand
 use Rattle.hand.specs.Hand.{tickedOf}
-use Rattle.hand.specs.Span.{Legal}
 use Rattle.hand.proofs.StoredLaws.{stored-second, stored-later}
 use Rattle.hand.proofs.SpanLaws.{few-ticks, ticks-trim}
 use Rattle.control.specs.Lock.{writtenOf}
@@ -32,14 +28,16 @@ use Rattle.bus.proofs.AgeLaws.{stays-open}
 use Rattle.events.specs.declared.event.Event.{Event}
 use Rattle.sd2068.specs.declared.clock.Clock.{Clock}
 use Rattle.sd2068.specs.declared.answers.Answered.{Answered}
+use Rattle.sd2068.specs.Reading.{controlAtOf, registerOf}
 use Rattle.sd2068.specs.Writing.{storesOf, writeOf}
 use Rattle.sd2068.specs.Pulse.{pulsesOf}
-use Rattle.sd2068.specs.Transfer.{startedOf, stoppedOf}
+use Rattle.sd2068.specs.Transfer.{startedOf}
 use Rattle.sd2068.specs.Step.{eventOf}
 use Rattle.sd2068.proofs.GroupLaws.{pulses-hand, pulses-bus, pulses-lock}
-use Rattle.sd2068.specs.Run.{Machine, stop, byte, takenOf, event, after, pulsesIn}
-use Rattle.sd2068.specs.Kept.{Unlocked, ageOf, Setting, setBy}
+use Rattle.sd2068.specs.Run.{Machine, start, byte, takenOf, event, after, pulsesIn, readBy}
+use Rattle.sd2068.specs.Kept.{Unlocked, keptTimeOf, Pointed, Setting, ageOf, Pointing, setBy}
 use Rattle.sd2068.proofs.PhaseLaws.{at, hears-write, hears-pointer, hears-data}
+use Rattle.sd2068.proofs.UnheardLaws.{sends, read-unheard}
 use Rattle.sd2068.proofs.SpeechLaws.{Stage, Leads, Path, Path.here as here, Path.then as then, spaced, walk}
 
 -- pulses within the time that a transfer has age it, and do nothing else to the bus
@@ -56,6 +54,9 @@ older-many p m a marked (suc n) h =
 pub record Listening (m : Mode) (p a : ℕ) (c : Clock) : Type 0 where
   pub marked : Bool
   pub bus : c .bus ≡ at p m (record { age = a; marked = marked })
+
+abbrev pub transferOf : {m : Mode} {p a : ℕ} {c : Clock} → Listening m p a c → Transfer
+transferOf {a} h = record { age = a; marked = h .marked }
 
 pub listening-on : {m : Mode} {p a : ℕ} {c : Clock} → Listening m p a c → (n : ℕ) → a + n < 16384 → Listening m p (a + n) (pulsesOf c n)
 listening-on {m} {p} {a} {c} h n l =
@@ -75,8 +76,8 @@ record Before (trim : ℕ) (m : Mode) (p a : ℕ) (c : Clock) : Type 0 where
   unlocked : Unlocked c
   trimmed : c .hand .trim ≡ trim
 
-abbrev before : ℕ → Mode → ℕ → Stage
-before trim m p =
+abbrev before : (trim : ℕ) (m : Mode) → sends m ≡ false → ℕ → Stage readBy
+before trim m quiet p =
     record {
       Holds = Before trim m p;
       waits = λ a n c h l.
@@ -85,6 +86,7 @@ before trim m p =
             unlocked = same-lock (pulses-lock n c) (h .unlocked);
             trimmed = ap (λ (x : Hand). x .trim) (pulses-hand n c) ∙ ticks-trim n (c .hand) ∙ h .trimmed;
           };
+      ignores = λ a c e h r. read-unheard c p (transferOf (h .listening)) e m quiet (h .listening .bus) r;
     }
 
 -- the time t as far as its first i bytes are set, over an older one
@@ -109,7 +111,7 @@ record Set (t : Time) (trim s i a : ℕ) (c : Clock) : Type 0 where
   hand : c .hand ≡ record { time = mixed i t old; counter = passed; trim = trim }
   since : s + passed ≡ a
 
-abbrev set : Time → ℕ → ℕ → ℕ → Stage
+abbrev set : Time → ℕ → ℕ → ℕ → Stage readBy
 set t trim s i =
     record {
       Holds = Set t trim s i;
@@ -124,6 +126,7 @@ set t trim s i =
                 ∙ few-ticks (record { time = mixed i t (h .old); counter = h .passed; trim = trim }) n (omega (arith, h .since));
             since = omega (arith, h .since);
           };
+      ignores = λ a c e h r. read-unheard c i (transferOf (h .listening)) e Writing refl (h .listening .bus) r;
     }
 
 -- a byte at a register below 0Fh, with the lock open, is stored there and leaves the lock
@@ -143,14 +146,11 @@ module _ (c : Clock) (a b : ℕ) (low : a < 0x0F) (u : Unlocked c) where
   unfolding writeOf
   stored-lock = same
 
-abbrev transferOf : {m : Mode} {p a : ℕ} {c : Clock} → Listening m p a c → Transfer
-transferOf {a} h = record { age = a; marked = h .marked }
-
 clock-of : {r s : Answered} → r ≡ s → r .clock ≡ s .clock
 clock-of e = ap (λ (r : Answered). r .clock) e
 
 -- 64h and then 00h lead to the first register
-to-pointer : (trim p : ℕ) → Leads (before trim Address p) (byte 0x64) [] (before trim Pointer p)
+to-pointer : (trim p : ℕ) → Leads readBy (before trim Address refl p) (byte 0x64) [] (before trim Pointer refl p)
 unfolding eventOf
 to-pointer trim p =
     record {
@@ -160,7 +160,7 @@ to-pointer trim p =
       says = λ a c rest h. refl;
     }
 
-to-writing : (trim p : ℕ) → Leads (before trim Pointer p) (byte 0x00) [] (before trim Writing 0)
+to-writing : (trim p : ℕ) → Leads readBy (before trim Pointer refl p) (byte 0x00) [] (before trim Writing refl 0)
 unfolding eventOf
 to-writing trim p =
     record {
@@ -172,19 +172,19 @@ to-writing trim p =
 
 module _ (t : Time) (trim : ℕ) where
   -- the seconds begin the second anew
-  seconds-set : keptOf 0x00 (t .seconds) ≡ t .seconds → (a : ℕ) (c : Clock) → Before trim Writing 0 a c → Set t trim a 1 a (takenOf c (byte (t .seconds)) .clock)
+  seconds-set : (b : ℕ) → keptOf 0x00 b ≡ t .seconds → (a : ℕ) (c : Clock) → Before trim Writing 0 a c → Set t trim a 1 a (takenOf c (byte b) .clock)
   unfolding eventOf withByteOf
-  seconds-set kept a c h =
-      subst (Set t trim a 1 a) (sym (clock-of (hears-data c 0 (transferOf (h .listening)) (t .seconds) (h .listening .bus))))
+  seconds-set b kept a c h =
+      subst (Set t trim a 1 a) (sym (clock-of (hears-data c 0 (transferOf (h .listening)) b (h .listening .bus))))
       (record {
         listening = record { marked = h .listening .marked; bus = refl };
-        unlocked = same-lock (stored-lock c 0 (t .seconds) (omega arith) (h .unlocked)) (h .unlocked);
+        unlocked = same-lock (stored-lock c 0 b (omega arith) (h .unlocked)) (h .unlocked);
         old = c .hand .time;
         passed = 0;
         hand =
-            stored-hand c 0 (t .seconds) (omega arith) (h .unlocked)
-            ∙ stored-second (c .hand) (t .seconds)
-            ∙ ap₂ (λ (b : ℕ) (f : ℕ). record { time = withByteOf (c .hand .time) 0 b; counter = 0; trim = f }) kept (h .trimmed);
+            stored-hand c 0 b (omega arith) (h .unlocked)
+            ∙ stored-second (c .hand) b
+            ∙ ap₂ (λ (x : ℕ) (f : ℕ). record { time = withByteOf (c .hand .time) 0 x; counter = 0; trim = f }) kept (h .trimmed);
         since = omega arith;
       })
 
@@ -195,7 +195,7 @@ module _ (t : Time) (trim : ℕ) where
         ap (λ (x : Hand). hand.storedOf x i b) e ∙ stored-later (record { time = mixed i t old; counter = n; trim = trim }) i b from to
         ∙ ap (λ (x : Time). record { time = x; counter = n; trim = trim }) (mix old)
 
-    next-set : Leads (set t trim s i) (byte b) [] (set t trim s (i + 1))
+    next-set : Leads readBy (set t trim s i) (byte b) [] (set t trim s (i + 1))
     unfolding eventOf
     next-set =
         record {
@@ -216,21 +216,55 @@ module _ (t : Time) (trim : ℕ) where
           says = λ a c rest h. refl;
         }
 
-module _ (t : Time) (k : ℕ) (l : Legal t k) (trim s : ℕ) where
-  -- a legal time has no fixed bit set
-  clear : Bytes t
-  clear = time-bytes t (clear-time t (legal-clear t (number-moment t k (l .number)) (l .weekday)))
+-- the six bytes after the seconds, of which the registers keep those of the time
+six-set :
+    (sent : Time) (trim s : ℕ)
+    → Path readBy (set (keptTimeOf sent) trim s 1)
+    (byte (sent .minutes) ∷ byte (sent .hours) ∷ byte (sent .weekday) ∷ byte (sent .day) ∷ byte (sent .month) ∷ byte (sent .year) ∷ []) [] (set (keptTimeOf sent) trim s 7)
+unfolding withByteOf
+six-set sent trim s =
+    let t = keptTimeOf sent in
+    then (next-set t trim s 1 (sent .minutes) (omega arith) (omega arith) (λ old. refl))
+    (then (next-set t trim s 2 (sent .hours) (omega arith) (omega arith) (λ old. refl))
+    (then (next-set t trim s 3 (sent .weekday) (omega arith) (omega arith) (λ old. refl))
+    (then (next-set t trim s 4 (sent .day) (omega arith) (omega arith) (λ old. refl))
+    (then (next-set t trim s 5 (sent .month) (omega arith) (omega arith) (λ old. refl))
+    (then (next-set t trim s 6 (sent .year) (omega arith) (omega arith) (λ old. refl)) here)))))
 
-  -- the six bytes after the seconds
-  six-set : Path (set t trim s 1) (byte (t .minutes) ∷ byte (t .hours) ∷ byte (t .weekday) ∷ byte (t .day) ∷ byte (t .month) ∷ byte (t .year) ∷ []) [] (set t trim s 7)
-  unfolding clearOf withByteOf
-  six-set =
-      then (next-set t trim s 1 (t .minutes) (omega arith) (omega arith) (λ old. ap (withByteOf (mixed 1 t old) 1) (eqb-true _ _ (clear .two))))
-      (then (next-set t trim s 2 (t .hours) (omega arith) (omega arith) (λ old. ap (withByteOf (mixed 2 t old) 2) (eqb-true _ _ (clear .three))))
-      (then (next-set t trim s 3 (t .weekday) (omega arith) (omega arith) (λ old. ap (withByteOf (mixed 3 t old) 3) (eqb-true _ _ (clear .four))))
-      (then (next-set t trim s 4 (t .day) (omega arith) (omega arith) (λ old. ap (withByteOf (mixed 4 t old) 4) (eqb-true _ _ (clear .five))))
-      (then (next-set t trim s 5 (t .month) (omega arith) (omega arith) (λ old. ap (withByteOf (mixed 5 t old) 5) (eqb-true _ _ (clear .six))))
-      (then (next-set t trim s 6 (t .year) (omega arith) (omega arith) (λ old. ap (withByteOf (mixed 6 t old) 6) (eqb-true _ _ (clear .seven)))) here)))))
+-- events one list after the other
+pub after-add : (m : Machine) (c : Clock) (es fs : List Event) → after m c (es ++ fs) ≡ after m (after m c es) fs
+unfolding after
+after-add m c [] fs = refl
+after-add m c (e ∷ es) fs = after-add m (m c e .state) es fs
+
+-- the hand that a setting leaves
+module _ (c : Clock) (t : Time) (s : Setting c t) where
+  abbrev age : ℕ
+  age = s .pointed .transfer .age
+
+  first : Before (c .hand .trim) Writing 0 age c
+  first =
+      record {
+        listening =
+            record {
+              marked = s .pointed .transfer .marked;
+              bus = λ i. record { pointer = s .pointed .pointer i; phase = s .pointed .writes i };
+            };
+        unlocked = s .pointed .unlocked;
+        trimmed = refl;
+      }
+
+  all-set : Set (keptTimeOf (s .sent)) (c .hand .trim) age 7 (age + pulsesIn (s .rest)) (after event c (setBy s))
+  unfolding after
+  all-set =
+      walk (spaced readBy _ (s .rest) (s .six)) (six-set (s .sent) (c .hand .trim) age) age (takenOf c (byte (s .sent .seconds)) .clock)
+      (seconds-set (keptTimeOf (s .sent)) (c .hand .trim) (s .sent .seconds) refl age c first) (s .timely) .holds
+
+  pub set-hand : after event c (setBy s) .hand ≡ record { time = t; counter = pulsesIn (s .rest); trim = c .hand .trim }
+  set-hand =
+      all-set .hand
+      ∙ (λ i. record { time = s .kept i; counter = all-set .passed; trim = c .hand .trim })
+      ∙ ap (λ (n : ℕ). record { time = t; counter = n; trim = c .hand .trim }) (omega (arith, all-set .since))
 
 -- START goes on with an open transfer, or opens a new one
 started-in : (f : Phase) → (marked : Bool) × (startedIn f ≡ Open Address (record { age = ageOf f; marked = marked }))
@@ -246,38 +280,24 @@ begun c u =
       trimmed = refl;
     }
 
--- events one list after the other
-pub after-add : (m : Machine) (c : Clock) (es fs : List Event) → after m c (es ++ fs) ≡ after m (after m c es) fs
-unfolding after
-after-add m c [] fs = refl
-after-add m c (e ∷ es) fs = after-add m (m c e .state) es fs
+-- START, 64h and 00h lead to where a time is set
+module _ (c : Clock) (s : Pointing c) where
+  abbrev there : Clock
+  there = after event c (start ∷ s .pointing)
 
-module _ (c : Clock) (t : Time) (k : ℕ) (l : Legal t k) (s : Setting c t) where
-  abbrev pointed : Clock
-  pointed = after event (startedOf c) (s .pointing)
+  arrives : Before (c .hand .trim) Writing 0 (ageOf (c .bus .phase) + pulsesIn (s .pointing)) there
+  unfolding after eventOf
+  arrives =
+      walk (spaced readBy _ (s .pointing) (s .points)) (then (to-pointer (c .hand .trim) (c .bus .pointer)) (then (to-writing (c .hand .trim) (c .bus .pointer)) here))
+      (ageOf (c .bus .phase)) (startedOf c) (begun c (s .unlocked)) (s .timely) .holds
 
-  abbrev begins : ℕ
-  begins = ageOf (c .bus .phase) + pulsesIn (s .pointing)
-
-  points-first : Before (c .hand .trim) Writing 0 begins pointed
-  points-first =
-      walk (spaced _ (s .pointing) (s .points)) (then (to-pointer (c .hand .trim) (c .bus .pointer)) (then (to-writing (c .hand .trim) (c .bus .pointer)) here))
-      (ageOf (c .bus .phase)) (startedOf c) (begun c (s .unlocked)) (omega (arith, s .timely)) .holds
-
-  abbrev written : Clock
-  written = takenOf pointed (byte (t .seconds)) .clock
-
-  all-set : Set t (c .hand .trim) begins 7 (begins + pulsesIn (s .rest)) (after event written (s .rest))
-  unfolding clearOf
-  all-set =
-      walk (spaced _ (s .rest) (s .sets)) (six-set t k l (c .hand .trim) begins) begins written
-      (seconds-set t (c .hand .trim) (eqb-true _ _ (clear t k l (c .hand .trim) begins .one)) begins pointed points-first)
-      (omega (arith, s .timely)) .holds
-
-  -- the hand that a setting leaves
-  pub set-hand : after event c (setBy s) .hand ≡ record { time = t; counter = pulsesIn (s .rest); trim = c .hand .trim }
-  unfolding after eventOf stoppedOf
-  set-hand =
-      ap (λ (d : Clock). d .hand) (after-add event (startedOf c) (s .pointing) (byte (t .seconds) ∷ (s .rest ++ (stop ∷ []))) ∙ after-add event written (s .rest) (stop ∷ []))
-      ∙ all-set .hand
-      ∙ ap (λ (n : ℕ). record { time = t; counter = n; trim = c .hand .trim }) (omega (arith, all-set .since))
+  -- as old as it was and the pulses on the way, and the trim as it was
+  pub start-points : (p : Pointed there) × ((p .transfer .age ≡ ageOf (c .bus .phase) + pulsesIn (s .pointing)) × (registerOf there 0x12 ≡ registerOf c 0x12))
+  unfolding registerOf controlAtOf
+  start-points =
+      (record {
+        transfer = transferOf (arrives .listening);
+        writes = ap (λ (b : Bus). b .phase) (arrives .listening .bus);
+        pointer = ap (λ (b : Bus). b .pointer) (arrives .listening .bus);
+        unlocked = arrives .unlocked;
+      }, (refl, arrives .trimmed))

@@ -5,6 +5,7 @@ use mathlib.Core.List.{List, [], _∷_, _++_, map}
 use mathlib.Core.Logic.{_⊎_}
 use Prim.Native.Nat.{ℕ, _+_, _<_}
 use Rattle.calendar.specs.declared.time.Time.{Time}
+use Rattle.registers.specs.Fixed.{keptOf}
 use Rattle.registers.specs.Seven.{bytesOf}
 use Rattle.hand.specs.Span.{Counted}
 use Rattle.bus.specs.declared.phase.Mode.the-variants.{Address, Writing}
@@ -17,7 +18,7 @@ use Rattle.events.specs.Answer.{textOf}
 use Rattle.events.specs.Refusal.{faultIn}
 use Rattle.sd2068.specs.declared.clock.Clock.{Clock}
 use Rattle.sd2068.specs.Reading.{registerOf}
-use Rattle.sd2068.specs.Run.{start, stop, byte, ack, nak, Outcome, Machine, after, pulsesIn, spoken, readsOf}
+use Rattle.sd2068.specs.Run.{byte, ack, nak, Outcome, Machine, after, pulsesIn, readBy, byteBy, spoken, readsOf}
 
 -- the lock is open
 pub record Unlocked (c : Clock) : Type 0 where
@@ -39,39 +40,68 @@ pub record Stores (c : Clock) (e : Event) : Type 0 where
   pub unlocked : Unlocked c
   pub place : (c .bus .pointer < 0x07) ⊎ (c .bus .pointer ≡ 0x12)
 
--- events of which none is such a byte or a power loss, each judged in the state that it finds
+-- no event is a power loss or such a byte, each judged in the state before it
 pub data Spares (m : Machine) : Clock → List Event → Type 0 where
   none : {c : Clock} → Spares m c []
   more : {c : Clock} {e : Event} {es : List Event} → (PowerLoss e → ⊥) → (Stores c e → ⊥) → Spares m (m c e .state) es → Spares m c (e ∷ es)
+
+-- the seven bytes that the registers of the time keep of those sent
+abbrev pub keptTimeOf : Time → Time
+keptTimeOf sent =
+    record {
+      seconds = keptOf 0x00 (sent .seconds);
+      minutes = keptOf 0x01 (sent .minutes);
+      hours = keptOf 0x02 (sent .hours);
+      weekday = keptOf 0x03 (sent .weekday);
+      day = keptOf 0x04 (sent .day);
+      month = keptOf 0x05 (sent .month);
+      year = keptOf 0x06 (sent .year);
+    }
+
+-- a transfer that writes with the lock open, at the seconds
+pub record Pointed (c : Clock) : Type 0 where
+  pub transfer : Transfer
+  pub writes : c .bus .phase ≡ Open Writing transfer
+  pub pointer : c .bus .pointer ≡ 0x00
+  pub unlocked : Unlocked c
+
+-- how a time is set there: seven bytes are sent, of which the registers keep its own; `rest` is what comes after the seconds, and a read among it is unheard
+pub record Setting (c : Clock) (t : Time) : Type 0 where
+  pub pointed : Pointed c
+  pub sent : Time
+  pub kept : keptTimeOf sent ≡ t
+  pub rest : List Event
+  pub six :
+      spoken readBy rest
+      ≡ byte (sent .minutes) ∷ byte (sent .hours) ∷ byte (sent .weekday) ∷ byte (sent .day) ∷ byte (sent .month) ∷ byte (sent .year) ∷ []
+  pub timely : pointed .transfer .age + pulsesIn rest < 16384
 
 -- how old the transfer is that START goes on with; one that it opens is new
 abbrev pub ageOf : Phase → ℕ
 ageOf Closed = 0
 ageOf (Open m t) = t .age
 
--- how a time is set: START, 64h and 00h, the seconds, the other six, STOP; `pointing` is what comes before the seconds and `rest` what comes after
-pub record Setting (c : Clock) (t : Time) : Type 0 where
+-- one way there: with the lock open START, 64h and 00h; reads among them are unheard
+pub record Pointing (c : Clock) : Type 0 where
   pub unlocked : Unlocked c
   pub pointing : List Event
-  pub points : spoken pointing ≡ byte 0x64 ∷ byte 0x00 ∷ []
-  pub rest : List Event
-  pub sets : spoken rest ≡ byte (t .minutes) ∷ byte (t .hours) ∷ byte (t .weekday) ∷ byte (t .day) ∷ byte (t .month) ∷ byte (t .year) ∷ []
-  pub timely : ageOf (c .bus .phase) + (pulsesIn pointing + pulsesIn rest) < 16384
+  pub points : spoken readBy pointing ≡ byte 0x64 ∷ byte 0x00 ∷ []
+  pub timely : ageOf (c .bus .phase) + pulsesIn pointing < 16384
 
--- how it is read: an address is awaited and the pointer is at the seconds; after 65h come seven reads, and only the last may end in NAK
+-- how it is read: an address is awaited and the pointer is at the seconds; after 65h come seven reads, only the last may end in NAK, and a master's byte among them is unheard
 pub record Reading (c : Clock) : Type 0 where
   pub transfer : Transfer
   pub awaits : c .bus .phase ≡ Open Address transfer
   pub pointer : c .bus .pointer ≡ 0x00
   pub reads : List Event
-  pub six : spoken reads ≡ ack ∷ ack ∷ ack ∷ ack ∷ ack ∷ ack ∷ []
+  pub six : spoken byteBy reads ≡ ack ∷ ack ∷ ack ∷ ack ∷ ack ∷ ack ∷ []
   pub last : Event
   pub seventh : (last ≡ ack) ⊎ (last ≡ nak)
   pub timely : transfer .age + pulsesIn reads < 16384
 
 -- the events of a setting, in whole
 abbrev pub setBy : {c : Clock} {t : Time} → Setting c t → List Event
-setBy {c} {t} s = start ∷ (s .pointing ++ (byte (t .seconds) ∷ (s .rest ++ (stop ∷ []))))
+setBy s = byte (s .sent .seconds) ∷ s .rest
 
 -- the pulses between the stored seconds and what comes after the traffic
 abbrev pub pulsesSince : {c : Clock} {t : Time} → Setting c t → List Event → ℕ

@@ -68,17 +68,21 @@ unfoldable pub pulsesIn : List Event → ℕ
 pulsesIn [] = 0
 pulsesIn (e ∷ es) = pulsesBy e + pulsesIn es
 
--- events without the pulses and without those that are refused
+-- a read, with ACK or with NAK, and a master's byte, that is not refused
+abbrev pub readBy : Event → Bool
+readBy e = eqb (faultIn e) 0 && (eqb (e .kind) 3 || eqb (e .kind) 4)
+
+abbrev pub byteBy : Event → Bool
+byteBy e = eqb (faultIn e) 0 && eqb (e .kind) 2
+
+-- refused, or pulses
 abbrev pub waits : Event → Bool
 waits e = not (eqb (faultIn e) 0) || eqb (e .kind) 5
 
-unfoldable pub spoken : List Event → List Event
-spoken [] = []
-spoken (e ∷ es) = cond (waits e) (spoken es) (e ∷ spoken es)
-
--- a read, with ACK or with NAK, that is not refused
-abbrev pub readBy : Event → Bool
-readBy e = eqb (faultIn e) 0 && (eqb (e .kind) 3 || eqb (e .kind) 4)
+-- events without these, and without those that a transfer leaves unheard
+unfoldable pub spoken : (Event → Bool) → List Event → List Event
+spoken unheard [] = []
+spoken unheard (e ∷ es) = cond (waits e || unheard e) (spoken unheard es) (e ∷ spoken unheard es)
 
 -- what the reads among events answer, in their order
 unfoldable pub readsOf : Machine → Clock → List Event → List (List ℕ)
