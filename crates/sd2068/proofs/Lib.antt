@@ -3,9 +3,11 @@ pub mod DriftLaws
 pub mod WellLaws
 pub mod ListedLaws
 pub mod RowLaws
+pub mod KindLaws
 pub mod PhaseLaws
 pub mod SpeechLaws
 pub mod UnheardLaws
+pub mod StillLaws
 pub mod SettingLaws
 pub mod TrafficLaws
 pub mod ReadBackLaws

@@ -294,10 +294,12 @@ module _ (c : Clock) (s : Pointing c) where
   -- as old as it was and the pulses on the way, and the trim as it was
   pub start-points : (p : Pointed there) × ((p .transfer .age ≡ ageOf (c .bus .phase) + pulsesIn (s .pointing)) × (registerOf there 0x12 ≡ registerOf c 0x12))
   unfolding registerOf controlAtOf
-  start-points =
-      (record {
-        transfer = transferOf (arrives .listening);
-        writes = ap (λ (b : Bus). b .phase) (arrives .listening .bus);
-        pointer = ap (λ (b : Bus). b .pointer) (arrives .listening .bus);
-        unlocked = arrives .unlocked;
-      }, (refl, arrives .trimmed))
+  start-points = (
+    record {
+      transfer = transferOf (arrives .listening);
+      writes = ap (λ (b : Bus). b .phase) (arrives .listening .bus);
+      pointer = ap (λ (b : Bus). b .pointer) (arrives .listening .bus);
+      unlocked = arrives .unlocked;
+    },
+    (refl, arrives .trimmed),
+  )

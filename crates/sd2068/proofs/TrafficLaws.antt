@@ -1,13 +1,13 @@
 -- Traffic moves the hand by its pulses alone: a write elsewhere, or one that the lock keeps out, leaves it. Assumes nothing.
-use mathlib.Core.Path.{_≡_, refl, sym, ap, _∙_, subst}
+use mathlib.Core.Path.{_≡_, refl, sym, ap, _∙_}
 use mathlib.Core.Bool.{Bool, true, false, cond, _&&_}
 use mathlib.Core.List.{List}
 use mathlib.Core.Logic.{_⊎_, inl, inr}
-use Prim.Native.Nat.{ℕ, _≤_, _<_}
+use Prim.Native.Nat.{ℕ, _<_}
 use native.Mathlib.Decide.{ℕ-discrete, decLt}
 use native.Mathlib.Omega.{arith}
 use lib.Dec.{eqb, ltb}
-use borrow.Author.Tests.{eq-eqb, le-ltb}
+use borrow.Author.Tests.{eq-eqb}
 use Rattle.fields.proofs.FieldLaws.{and-left, and-right}
 use Rattle.fields.proofs.Picked.{picked}
 use Rattle.calendar.specs.Repeat.{times}
@@ -32,6 +32,7 @@ use Rattle.sd2068.specs.Step.{eventOf}
 use Rattle.sd2068.proofs.GroupLaws.{read-alone, pulses-hand}
 use Rattle.sd2068.specs.Run.{takenOf, event, after, pulsesBy, pulsesIn}
 use Rattle.sd2068.specs.Kept.{Unlocked, PowerLoss, Stores, Spares, Spares.none as none, Spares.more as more}
+use Rattle.sd2068.proofs.KindLaws.{each-kind, small-kind}
 use Rattle.sd2068.proofs.SpeechLaws.{refused-state, refused-pulses, good-taken}
 
 -- a byte that is stored finds the lock open
@@ -75,26 +76,6 @@ module _ (c : Clock) (b : ℕ) where
   heard-hand (Open Writing t) spared = write-hand c (c .bus .pointer) b (spared t refl)
   heard-hand (Open Reading t) spared = refl
   heard-hand (Open Deaf t) spared = refl
-
--- a number is n, or it is another one
-or-else : (P : ℕ → Type 0) (k n : ℕ) → P n → ((k ≡ n → ⊥) → P k) → P k
-or-else P k n p other = elim (ℕ-discrete k n) [ yes e ↦ subst P (sym e) p | no d ↦ other d ]
-
--- what holds of 0 to 5, and of all from 6 on
-each-kind : (P : ℕ → Type 0) → P 0 → P 1 → P 2 → P 3 → P 4 → P 5 → ((k : ℕ) → 6 ≤ k → P k) → (k : ℕ) → P k
-each-kind P p0 p1 p2 p3 p4 p5 others k =
-    or-else P k 0 p0
-    (λ n0. or-else P k 1 p1 (λ n1. or-else P k 2 p2 (λ n2. or-else P k 3 p3 (λ n3. or-else P k 4 p4 (λ n4. or-else P k 5 p5 (λ n5. others k (omega arith)))))))
-
--- row 2 keeps out what is over 6
-small-kind : (kind byte count : ℕ) → faultOf kind byte count ≡ 0 → kind < 7
-small-kind kind byte count good =
-    elim (decLt kind 7) [
-      | yes l ↦ l
-      | no l ↦
-          let two : faultOf kind byte count ≡ 2 = simp (le-ltb kind 7 (omega arith)) in
-          omega (arith, two, good)
-    ]
 
 module _ (c : Clock) (byte count : ℕ) where
   -- a byte of the master that may come to a stored one at 00h to 06h or 12h does not

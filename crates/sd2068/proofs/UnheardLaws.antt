@@ -1,15 +1,14 @@
 -- Which events change nothing in an open transfer: refused ones, reads where the chip does not read, and a master's bytes where it does. Assumes nothing.
 use mathlib.Core.Path.{_≡_, refl, sym, ap, _∙_}
-use mathlib.Core.Bool.{Bool, true, false, _&&_, _||_, true≢false}
+use mathlib.Core.Bool.{Bool, true, false, _||_, true≢false}
 use Prim.Native.Nat.{ℕ}
 use native.Mathlib.Omega.{arith}
 use lib.Dec.{eqb}
-use borrow.Author.Tests.{eqb-true, eq-eqb, ne-eqb}
+use borrow.Author.Tests.{eqb-true, ne-eqb}
 use Rattle.fields.proofs.FieldLaws.{and-left, and-right}
 use Rattle.bus.specs.declared.phase.Mode.{Mode}
 use Rattle.bus.specs.declared.phase.Mode.the-variants.{Address, Pointer, Writing, Reading, Deaf}
 use Rattle.bus.specs.declared.phase.Transfer.{Transfer}
-use Rattle.bus.specs.declared.phase.Bus.{Bus}
 use Rattle.bus.specs.Bytes.{heardOf}
 use Rattle.bus.specs.Reads as reads
 use Rattle.events.specs.declared.event.Event.{Event}
