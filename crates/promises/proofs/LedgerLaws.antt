@@ -23,7 +23,7 @@ use Rattle.calendar.proofs.MomentLaws.{number-moment}
 use Rattle.events.specs.declared.answer.Answer.the-variants.{Byte}
 use Rattle.events.specs.Answer.{textOf}
 use Rattle.sd2068.specs.Kept.{shownBy, ReadsBack}
-use Rattle.promises.specs.Ledger.{idOf, digitsOf, byteRead, digitsRead, SameMinute, Build, buildOf}
+use Rattle.promises.specs.Ledger.{idOf, digitsOf, byteRead, digitsRead, SameMinute, built}
 
 -- every code is a byte
 code-small : (m : HourMode) (n : ℕ) → n < 24 → hourByteOf m n < 256
@@ -95,11 +95,6 @@ one-id mode r s e =
     let v = r .counted .later in
     let w = s .counted .later in
     same-digits (r .time) (s .time) _ _ (v .number) (w .number) (v .mode ∙ mode ∙ sym (w .mode)) (sym (shown-digits r) ∙ e ∙ shown-digits s)
-
--- builds at an hour and a minute of 2006-12-20
-abbrev built : ℕ → ℕ → Build
-built hours minutes =
-    buildOf (record { seconds = 0x00; minutes = minutes; hours = hours; weekday = 0x03; day = 0x20; month = 0x12; year = 0x06 })
 
 -- 09:15 and 21:15, in 24-hour mode and in 12-hour mode
 pub quarter-past :

@@ -1,15 +1,21 @@
 -- Everything that is promised of the clock, in one place: each promise is stated here, and its proof is the law that it cites. Assumes nothing.
 use mathlib.Core.Path.{_≡_, subst}
-use mathlib.Core.Logic.{_↔_}
+use mathlib.Core.Logic.{_⊎_, _↔_}
 use mathlib.Core.Bool.{true, false, _&&_, not}
 use mathlib.Core.List.{List, [], _∷_, _++_}
-use Prim.Native.Nat.{ℕ, _*_, _<_}
+use mathlib.Core.Option.{some}
+use Prim.Native.Nat.{ℕ, _+_, _*_, _<_}
 use lib.ListN.{length, drop}
 use Rattle.fields.specs.Hours.{modeOf, hourNumberOf}
 use Rattle.calendar.specs.declared.time.Time.{Time}
+use Rattle.calendar.specs.Numbers.{numberOf}
 use Rattle.registers.specs.Fixed.{keptOf, clearOf}
 use Rattle.hand.specs.Span.{Legal}
+use Rattle.bus.specs.declared.phase.Mode.the-variants.{Writing, Reading}
+use Rattle.bus.specs.declared.phase.Transfer.{Transfer}
+use Rattle.bus.specs.declared.phase.Phase.the-variants.{Open}
 use Rattle.events.specs.declared.event.Event.{Event}
+use Rattle.events.specs.Refusal.{faultIn}
 use Rattle.sd2068.specs.declared.clock.Clock.{Clock}
 use Rattle.sd2068.specs.Power.{zeroStart, powerOnOf}
 use Rattle.sd2068.specs.Reading.{registerOf}
@@ -17,21 +23,26 @@ use Rattle.sd2068.specs.Pin.{pinOf}
 use Rattle.sd2068.specs.WellFormed.{wellFormedOf, Listed}
 use Rattle.sd2068.specs.Step.{Told, stepOf}
 use Rattle.sd2068.specs.Rows.{StepDue, PowerDue}
-use Rattle.sd2068.specs.Run.{step, event, after}
-use Rattle.sd2068.specs.Kept.{pulsesSince, Kept, readBack, ReadsBack, KeepsTime}
+use Rattle.sd2068.specs.Run as Run
+use Rattle.sd2068.specs.Run.{nak, step, event, after, pulsesIn, readBy, byteBy}
+use Rattle.sd2068.specs.Kept.{Pointed, ageOf, Pointing, pulsesSince, Kept, readBack, shownBy, ReadsBack, KeepsTime}
 use Rattle.sd2068.proofs.WellLaws.{whole, power-on-well, steps-well}
 use Rattle.sd2068.proofs.RowLaws as rows
 use Rattle.sd2068.proofs.ListedLaws.{well-listed, listed-well}
+use Rattle.sd2068.proofs.SettingLaws as setting
+use Rattle.sd2068.proofs.StillLaws as still
 use Rattle.sd2068.proofs.KeptLaws.{event-kept, step-kept, one-reading, same-reading}
+use Rattle.sd2068.proofs.Settled as chip
 use Rattle.script.specs.Rows.{headerWord, listedOf, startsOf, Due}
 use Rattle.script.specs.Lines.{linesOf}
 use Rattle.script.specs.File.{Run, runOf}
 use Rattle.script.proofs.RunLaws as script
+use Rattle.script.proofs.Settled as scripts
 use Rattle.promises.specs.Fixed.{fixed}
 use Rattle.promises.specs.Registers.{bit, viewOf, Looks, State}
 use Rattle.promises.specs.Seen.{Seen, Shows, startSeen, stopSeen, byteSeen, readSeen, pulsesSeen, lossSeen, poweredView, startAt, eventSeen}
-use Rattle.promises.specs.Script.{Scripted, KeepsTimeIn}
-use Rattle.promises.specs.Ledger.{digitsOf, digitsRead, SameMinute}
+use Rattle.promises.specs.Script.{readsIn, Scripted, fromAddress, KeepsTimeIn}
+use Rattle.promises.specs.Ledger.{digitsOf, digitsRead, SameMinute, built}
 use Rattle.promises.specs.Marked.{Marked}
 use Rattle.promises.proofs.FixedLaws as bits
 use Rattle.promises.proofs.SeenLaws as seen
@@ -40,6 +51,8 @@ use Rattle.promises.proofs.ViewLaws as view
 use Rattle.promises.proofs.ScriptLaws.{script-kept}
 use Rattle.promises.proofs.LedgerLaws as ledger
 use Rattle.promises.proofs.MarkedCases as cases
+use Rattle.promises.proofs.Witness as run
+use Rattle.promises.proofs.ScriptWitness as file
 
 -- Promise 1: refusals come when their rows say and never else, and then nothing has changed.
 
@@ -154,6 +167,22 @@ module _ (file out : List ℕ) (accepted : runOf file out .refusal ≡ 0) where
 
 -- Promise 3: a time that was set reads back as many seconds on as the pulses since make.
 
+-- the lock that a setting finds open is open by the bits of 0Fh and 10h
+-- START, 64h and 00h, with the lock open, lead to where a time is set, and so do they by steps
+module _ (c : Clock) (s : Pointing c) where
+  pub start-points :
+      let there = after event c (Run.start ∷ s .pointing) in
+      (p : Pointed there) × ((p .transfer .age ≡ ageOf (c .bus .phase) + pulsesIn (s .pointing)) × (registerOf there 0x12 ≡ registerOf c 0x12))
+  start-points = setting.start-points c s
+
+-- what may stand between the bytes of a setting and between the reads of a reading: beside pulses every event that changes nothing, and these are all
+module _ (c : Clock) (e : Event) (t : Transfer) where
+  pub still-writing : c .bus .phase ≡ Open Writing t → (event c e .state ≡ c) ↔ ((faultIn e ≡ 0 → ⊥) ⊎ (readBy e ≡ true))
+  still-writing = still.still-writing c e t
+
+  pub still-reading : c .bus .phase ≡ Open Reading t → (event c e .state ≡ c) ↔ ((faultIn e ≡ 0 → ⊥) ⊎ (byteBy e ≡ true))
+  still-reading = still.still-reading c e t
+
 module _ (t : Time) (k : ℕ) (l : Legal t k) where
   -- for events on any state whatever
   pub time-kept : (c : Clock) (r : Kept event c t) → KeepsTime k r
@@ -177,6 +206,35 @@ module _ (t : Time) (k : ℕ) (l : Legal t k) where
   pub other-reading : {f p : ℕ} {a b : List ℕ} {x y : List (List ℕ)} → ReadsBack t k f p a x → ReadsBack t k f p b y → x ≡ y
   other-reading = one-reading
 
+-- the promise is not empty: a run that meets every hypothesis, what happened on its way, and the bytes that it reads; by steps they are the same
+pub witness : Kept event run.ready run.set
+witness = run.witness
+
+pub witness-computed : run.Computed
+witness-computed = run.witness-computed
+
+pub witness-read : readBack witness ≡ shownBy run.later
+unfolding witness
+witness-read = run.witness-read
+
+pub stepped-read : readBack run.stepped ≡ readBack witness
+unfolding witness
+stepped-read = run.stepped-read
+
+-- a script file that sets 9:15 PM and reads it back
+pub scripted : Scripted file.file file.set
+scripted = file.scripted
+
+pub scripted-read :
+    readsIn (file.reading ++ (nak ∷ [])) (drop 5 (fromAddress scripted (runOf file.file file.out .output)))
+    ≡ (48 ∷ 48 ∷ []) ∷ (49 ∷ 53 ∷ []) ∷ (50 ∷ 57 ∷ []) ∷ (48 ∷ 51 ∷ []) ∷ (50 ∷ 48 ∷ []) ∷ (49 ∷ 50 ∷ []) ∷ (48 ∷ 54 ∷ []) ∷ []
+unfolding scripted
+scripted-read = file.scripted-read
+
+pub scripted-kept : KeepsTimeIn 219964500 scripted (runOf file.file file.out .output)
+unfolding scripted
+scripted-kept = file.scripted-kept
+
 -- The ledger: two readings that show the same eight digits, in one hour mode, were read in the same minute of a year.
 pub one-id :
     {t u : Time} {k l f g p q : ℕ} {a b : List ℕ} {x y : List (List ℕ)} → modeOf (t .hours) ≡ modeOf (u .hours)
@@ -189,6 +247,38 @@ pub hours-apart :
     → (hourNumberOf (t .hours) ≡ hourNumberOf (u .hours) → ⊥) → digitsOf t ≡ digitsOf u → ⊥
 hours-apart t u k l a b = ledger.apart t u k l (a .number) (b .number)
 
+-- the answers of a reading of a legal time show its digits
+pub read-digits : (t : Time) (k : ℕ) → numberOf t ≡ some k → digitsRead (shownBy t) ≡ digitsOf t
+read-digits = ledger.read-digits
+
+-- both ids of a quarter past nine, in 24-hour mode and in 12-hour mode
+pub quarter-past :
+    built 0x89 0x15 ∷ built 0xA1 0x15 ∷ built 0x09 0x15 ∷ built 0x29 0x15 ∷ []
+    ≡ record { second = some 219921300; hour = 9; id = 1 ∷ 2 ∷ 2 ∷ 0 ∷ 0 ∷ 9 ∷ 1 ∷ 5 ∷ [] }
+    ∷ record { second = some 219964500; hour = 21; id = 1 ∷ 2 ∷ 2 ∷ 0 ∷ 2 ∷ 1 ∷ 1 ∷ 5 ∷ [] }
+    ∷ record { second = some 219921300; hour = 9; id = 1 ∷ 2 ∷ 2 ∷ 0 ∷ 0 ∷ 9 ∷ 1 ∷ 5 ∷ [] }
+    ∷ record { second = some 219964500; hour = 21; id = 1 ∷ 2 ∷ 2 ∷ 0 ∷ 2 ∷ 9 ∷ 1 ∷ 5 ∷ [] }
+    ∷ []
+quarter-past = ledger.quarter-past
+
+-- across hour modes digits do collide: 21:00 in 24-hour mode and 1 PM in 12-hour mode
+pub collide :
+    built 0xA1 0x00 ∷ built 0x21 0x00 ∷ []
+    ≡ record { second = some 219963600; hour = 21; id = 1 ∷ 2 ∷ 2 ∷ 0 ∷ 2 ∷ 1 ∷ 0 ∷ 0 ∷ [] }
+    ∷ record { second = some 219934800; hour = 13; id = 1 ∷ 2 ∷ 2 ∷ 0 ∷ 2 ∷ 1 ∷ 0 ∷ 0 ∷ [] }
+    ∷ []
+collide = ledger.collide
+
 -- The marked cases 1 to 9.
 pub marked-cases : Marked
 marked-cases = cases.marked
+
+-- The contracts of the step, the power-on and the run leave one result and no other.
+pub step-settles : chip.StepSettles
+step-settles = chip.step-settles
+
+pub power-on-settles : chip.PowerOnSettles
+power-on-settles = chip.power-on-settles
+
+pub run-settles : scripts.RunSettles
+run-settles = scripts.run-settles

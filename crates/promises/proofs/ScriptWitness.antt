@@ -55,7 +55,7 @@ bytesBy [] = []
 bytesBy (e ∷ es) = e .kind ∷ e .byte ∷ (word (e .count) ++ bytesBy es)
 
 -- 29h:15:00, which is 9:15 PM, weekday 3, 20-12-06
-abbrev set : Time
+abbrev pub set : Time
 set = record { seconds = 0x00; minutes = 0x15; hours = 0x29; weekday = 0x03; day = 0x20; month = 0x12; year = 0x06 }
 
 -- START, 64h and 00h
@@ -71,7 +71,7 @@ abbrev traffic : List Event
 traffic = stop ∷ writes 0x14 (0x5A ∷ []) ++ (pulses 300 ∷ start ∷ [])
 
 -- six reads with ACK
-abbrev reading : List Event
+abbrev pub reading : List Event
 reading = ack ∷ ack ∷ ack ∷ ack ∷ ack ∷ ack ∷ []
 
 -- the whole script: unlocked, set, other traffic, read back

@@ -94,7 +94,7 @@ traffic = chatter ++ (pulses 32500 ∷ ack ∷ start ∷ [])
 abbrev pub ready : Clock
 ready = after step powered (unlocking ++ pointing)
 
-abbrev set : Time
+abbrev pub set : Time
 set = record { seconds = 0x40; minutes = 0x59; hours = 0x31; weekday = 0x06; day = 0x28; month = 0x02; year = 0x00 }
 
 abbrev pub later : Time

@@ -47,3 +47,8 @@ pub record Build : Type 0 where
 
 abbrev pub buildOf : Time → Build
 buildOf t = record { second = numberOf t; hour = hourNumberOf (t .hours); id = digitsOf t }
+
+-- builds at an hour and a minute of 2006-12-20
+abbrev pub built : ℕ → ℕ → Build
+built hours minutes =
+    buildOf (record { seconds = 0x00; minutes = minutes; hours = hours; weekday = 0x03; day = 0x20; month = 0x12; year = 0x06 })

@@ -27,8 +27,13 @@ ran-again : (x : Ran) (out : List ℕ) → ran-back (ran x out) ≡ x
 ran-again x out =
     λ i. record { refusal = refusal-again (x .refusal) i; index = x .index; count = x .count; clock = x .clock }
 
--- any two results and outputs that the contract allows at the same arguments are equal
-pub run-settles : (κs : Lfts 2) (a : Dens κs run-kinds.ps) (e f : AtExit (endedOf 2 run-kinds.ps run-kinds.r) κs) (x y : resT run-kinds.r κs .Denot) → run-reads.Post κs a x e → run-reads.Post κs a y f → (x ≡ y) × (now (e .1 .0) ≡ now (f .1 .0))
+-- any two results and outputs that the contract of a run allows at the same arguments are equal
+abbrev pub RunSettles : Type 0
+RunSettles =
+    (κs : Lfts 2) (a : Dens κs run-kinds.ps) (e f : AtExit (endedOf 2 run-kinds.ps run-kinds.r) κs) (x y : resT run-kinds.r κs .Denot) → run-reads.Post κs a x e
+    → run-reads.Post κs a y f → (x ≡ y) × (now (e .1 .0) ≡ now (f .1 .0))
+
+pub run-settles : RunSettles
 run-settles κs a e f x y p q =
     let same : ran x (now (e .1 .0)) ≡ ran y (now (f .1 .0)) = p ∙ sym q in
     (sym (ran-again x (now (e .1 .0))) ∙ ap ran-back same ∙ ran-again y (now (f .1 .0)), ap (λ (m : Run). m .output) same)

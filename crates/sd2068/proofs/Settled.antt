@@ -50,7 +50,14 @@ started-back p = record { refusal = refusal-back (p .refusal); clock = p .state 
 pub started-again : (x : Started) → started-back (started x) ≡ x
 started-again x = λ i. record { refusal = refusal-again (x .refusal) i; clock = x .clock }
 
-pub power-on-settles : Settles 1 power-on-kinds.ps power-on-kinds.r power-on-reads.Post
+-- what is said of a power-on and of a step, for crates above
+abbrev pub PowerOnSettles : Type 0
+PowerOnSettles = Settles 1 power-on-kinds.ps power-on-kinds.r power-on-reads.Post
+
+abbrev pub StepSettles : Type 0
+StepSettles = Settles 0 step-kinds.ps step-kinds.r step-reads.Post
+
+pub power-on-settles : PowerOnSettles
 power-on-settles κs a e f x y = settled started started-back started-again
 
 pub register-settles : Settles 0 register-kinds.ps register-kinds.r register-reads.Post
@@ -71,5 +78,5 @@ stores-settles κs a e f x y = settled (λ z. z) (λ z. z) (λ z. refl)
 pub clears-settles : Settles 0 clears-kinds.ps clears-kinds.r clears-reads.Post
 clears-settles κs a e f x y = settled (λ z. z) (λ z. z) (λ z. refl)
 
-pub step-settles : Settles 0 step-kinds.ps step-kinds.r step-reads.Post
+pub step-settles : StepSettles
 step-settles κs a e f x y = settled stepped stepped-back stepped-again
