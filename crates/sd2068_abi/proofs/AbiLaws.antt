@@ -31,7 +31,7 @@ use Rattle.state_events.specs.Event.{eventIn, answeredIn}
 use Rattle.state_events.proofs.TrafficLaws.{doneBy}
 use Rattle.state_events.proofs.EventLaws.{event-left}
 use Rattle.sd2068_abi.specs.Told.{toldOf, ranOf}
-use Rattle.sd2068_abi.specs.Abi.{lent, lentRun, fullOf, acceptedOf, powerOf, answeredOf, doneOf, stepOf, runOf}
+use Rattle.sd2068_abi.specs.Abi.{lent, lentRun, fullOf, acceptedOf, noPlace, powerOf, answeredOf, doneOf, stepOf, runOf}
 
 -- which bytes are accepted
 module _ (s : List ℕ) where
@@ -89,9 +89,9 @@ unfolding powerOf
 power-told start s out n on h e p q =
     let said : lent n out ≡ lent (powerOnOf start .refusal) (bytesOf (powerOnOf start .state)) =
     λ i. lent ((p ∙ ap (λ (m : Power). m .refusal) e) i) ((q ∙ ap (λ (m : Power). bytesOf (m .state)) e) i) in
-    said ∙ sym (ap (λ (b : Bool). cond b (lent (powerOnOf start .refusal) (bytesOf (powerOnOf start .state))) (lent 1 s)) (eq-eqb (length s) 61 h))
+    said ∙ sym (ap (λ (b : Bool). cond b (lent (powerOnOf start .refusal) (bytesOf (powerOnOf start .state))) (lent noPlace s)) (eq-eqb (length s) 61 h))
 
-pub power-other : (start s : List ℕ) → (length s ≡ 61 → ⊥) → lent 1 s ≡ powerOf start s
+pub power-other : (start s : List ℕ) → (length s ≡ 61 → ⊥) → lent noPlace s ≡ powerOf start s
 unfolding powerOf
 power-other start s h = simp (ne-eqb (length s) 61 h)
 
@@ -151,8 +151,8 @@ run-told file out s written left n r h e p q =
     lentRun ((p ∙ ap (λ (x : Run). ranOf (x .refusal) (x .index) (x .count)) e) i) (ap (λ (x : Run). x .output) e i)
     ((q ∙ ap (λ (x : Run). bytesOf (x .state)) e) i) in
     said
-    ∙ sym (ap (λ (b : Bool). cond b (lentRun (ranOf (m .refusal) (m .index) (m .count)) (m .output) (bytesOf (m .state))) (lentRun 1 out s)) (eq-eqb (length s) 61 h))
+    ∙ sym (ap (λ (b : Bool). cond b (lentRun (ranOf (m .refusal) (m .index) (m .count)) (m .output) (bytesOf (m .state))) (lentRun (ranOf noPlace 0 0) out s)) (eq-eqb (length s) 61 h))
 
-pub run-other : (file out s : List ℕ) → (length s ≡ 61 → ⊥) → lentRun 1 out s ≡ runOf file out s
+pub run-other : (file out s : List ℕ) (n : ℕ) → (length s ≡ 61 → ⊥) → n ≡ ranOf noPlace 0 0 → lentRun n out s ≡ runOf file out s
 unfolding runOf
-run-other file out s h = simp (ne-eqb (length s) 61 h)
+run-other file out s n h e = simp (e, ne-eqb (length s) 61 h)

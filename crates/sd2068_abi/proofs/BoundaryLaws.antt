@@ -31,7 +31,7 @@ use Rattle.state_bytes.specs.Shapes.{Arrays, Bytes}
 use Rattle.state_bytes.proofs.RoundLaws.{encoded-back, encoded-state, decoded-well, decoded-again}
 use Rattle.state_events.proofs.ArrayLaws.{decoded-arrays, power-on-arrays, step-arrays, steps-arrays}
 use Rattle.sd2068_abi.specs.Told.{answerByte, answerNumber, toldOf, ranOf}
-use Rattle.sd2068_abi.specs.Abi.{Lent, lent, fullOf, acceptedOf, powerOf, answeredOf, doneOf, stepOf, afterIn, lentRun, runOf}
+use Rattle.sd2068_abi.specs.Abi.{Lent, lent, fullOf, acceptedOf, noPlace, powerOf, answeredOf, doneOf, stepOf, afterIn, lentRun, runOf}
 use Rattle.sd2068_abi.proofs.AbiLaws.{accepted-full, accepted-state}
 
 -- the bytes of a well-formed state are accepted, and it comes back from them
@@ -133,7 +133,7 @@ unfolding powerOf
 power-accepted start s h =
     let c = powerOnOf start .state in
     let good = encoded-accepted c (power-on-arrays start) (whole c (power-on-well start)) in
-    ap (λ (b : Bool). acceptedOf (cond b (lent (powerOnOf start .refusal) (bytesOf c)) (lent 1 s) .state)) (eq-eqb (length s) 61 h) ∙ good
+    ap (λ (b : Bool). acceptedOf (cond b (lent (powerOnOf start .refusal) (bytesOf c)) (lent noPlace s) .state)) (eq-eqb (length s) 61 h) ∙ good
 
 module _ (s : List ℕ) (each : (i : ℕ) → getD s i 0 < 256) (e : acceptedOf s ≡ true) (kind byte count : ℕ) where
   abbrev clock : Clock
@@ -167,7 +167,7 @@ module _ (file out s : List ℕ) where
   unfolding runOf
   run-accepted h =
       let r = script.runOf file out in
-      ap (λ (b : Bool). acceptedOf (cond b (lentRun (ranOf (r .refusal) (r .index) (r .count)) (r .output) (bytesOf (r .state))) (lentRun 1 out s) .state)) (eq-eqb (length s) 61 h)
+      ap (λ (b : Bool). acceptedOf (cond b (lentRun (ranOf (r .refusal) (r .index) (r .count)) (r .output) (bytesOf (r .state))) (lentRun (ranOf noPlace 0 0) out s) .state)) (eq-eqb (length s) 61 h)
       ∙ run-reached
 
 -- a file has at most 4,089 events, so neither the index nor the count of a run is cut
@@ -199,5 +199,5 @@ module _ (file out : List ℕ) where
   run-uncut s h =
       let index : ran .index % 65536 ≡ ran .index = mod-eq-of-lt (omega (arith, few-by (run-due file out) .0)) in
       let count : ran .count % 65536 ≡ ran .count = mod-eq-of-lt (omega (arith, count-few)) in
-      ap (λ (b : Bool). cond b (lentRun (ranOf (ran .refusal) (ran .index) (ran .count)) (ran .output) (bytesOf (ran .state))) (lentRun 1 out s) .told) (eq-eqb (length s) 61 h)
+      ap (λ (b : Bool). cond b (lentRun (ranOf (ran .refusal) (ran .index) (ran .count)) (ran .output) (bytesOf (ran .state))) (lentRun (ranOf noPlace 0 0) out s) .told) (eq-eqb (length s) 61 h)
       ∙ (λ i. ran .refusal + 65536 * index i + 4294967296 * count i)

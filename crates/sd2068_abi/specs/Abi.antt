@@ -33,11 +33,15 @@ fullOf s = eqb (length s) 61
 unfoldable pub acceptedOf : List ℕ → Bool
 acceptedOf s = fullOf s && isState s
 
--- power-on: refusal 1 for a state of another length, which stays
+-- what is told where the lent state has no place for 61 bytes; no refusal has this number
+abbrev pub noPlace : ℕ
+noPlace = 255
+
+-- power-on: a state of another length is left as it is
 unfoldable pub powerOf : List ℕ → List ℕ → Lent
 powerOf start s =
     let on = powerOnOf start in
-    cond (fullOf s) (lent (on .refusal) (bytesOf (on .state))) (lent 1 s)
+    cond (fullOf s) (lent (on .refusal) (bytesOf (on .state))) (lent noPlace s)
 
 -- the event, or nothing where its fields are refused
 abbrev pub answeredOf : Clock → ℕ → ℕ → ℕ → Answered
@@ -79,4 +83,5 @@ lentRun told output state = record { told = told; output = output; state = state
 unfoldable pub runOf : List ℕ → List ℕ → List ℕ → LentRun
 runOf file out s =
     let r = script.runOf file out in
-    cond (fullOf s) (lentRun (ranOf (r .refusal) (r .index) (r .count)) (r .output) (bytesOf (r .state))) (lentRun 1 out s)
+    cond (fullOf s) (lentRun (ranOf (r .refusal) (r .index) (r .count)) (r .output) (bytesOf (r .state)))
+    (lentRun (ranOf noPlace 0 0) out s)

@@ -17,6 +17,9 @@ ghost use Rattle.sd2068_abi.specs.Abi.{lent, lentRun, powerOf, stepOf, p
 
 mod told;
 
+// Told where the lent state has no place for 61 bytes; no refusal has this number. (rules 10.4 and 10.8)
+const NO_PLACE: u8 = 255;
+
 // The length of a state. (rule 10.1)
 #[no_mangle]
 pub extern "C" fn tallowreed_state_size() -> usize
@@ -31,7 +34,7 @@ pub extern "C" fn tallowreed_power_on(start: &[u8], state: &mut [u8]) -> u8
     ensures { λ r. ⌜ lent r (now (state .exit)) ≡ powerOf (now (start .entry)) (now (state .entry)) ⌝ }
 {
     if state.len() != 61 {
-        return 1;
+        return NO_PLACE;
     }
     let on = power_on(start);
     let clock = on.clock;
@@ -97,7 +100,7 @@ pub extern "C" fn tallowreed_run(file: &[u8], output: &mut [u8], state: &mut [u8
     ensures { λ r. ⌜ lentRun r (now (output .exit)) (now (state .exit)) ≡ runOf (now (file .entry)) (now (output .entry)) (now (state .entry)) ⌝ }
 {
     if state.len() != 61 {
-        return 1;
+        return ran(NO_PLACE, 0, 0);
     }
     let done = run(file, output);
     let clock = done.clock;
