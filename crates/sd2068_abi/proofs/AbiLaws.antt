@@ -1,6 +1,6 @@
 -- What a call tells and leaves, from what the functions below say. Assumes nothing.
 use mathlib.Core.Path.{_≡_, refl, sym, ap, _∙_}
-use mathlib.Core.Bool.{Bool, true, false, cond, _&&_}
+use mathlib.Core.Bool.{Bool, true, false, cond, _&&_, and-false}
 use mathlib.Core.List.{List}
 use Prim.Native.Nat.{ℕ}
 use lib.Dec.{eqb}
@@ -21,7 +21,7 @@ use Rattle.sd2068.proofs.WellLaws.{Well, parts, whole, event-well}
 use Rattle.script.specs.declared.file.Ran.{Ran}
 use Rattle.script.specs.File as script
 use Rattle.script.specs.File.{Run}
-use Rattle.state_bytes.specs.Decoded.{clockOf, plainOf, isState}
+use Rattle.state_bytes.specs.Decoded.{clockOf, isState}
 use Rattle.state_bytes.specs.Encoded.{bytesOf}
 use Rattle.state_bytes.specs.Shapes.{Bytes}
 use Rattle.state_bytes.proofs.RoundLaws.{decoded-well, decoded-again, pin-back}
@@ -35,29 +35,13 @@ use Rattle.sd2068_abi.specs.Abi.{lent, lentRun, fullOf, acceptedOf, noPl
 
 -- which bytes are accepted
 module _ (s : List ℕ) where
-  pub accepted : length s ≡ 61 → wellFormedOf (clockOf s) ≡ true → plainOf s ≡ true → acceptedOf s ≡ true
-  unfolding acceptedOf isState
-  accepted h w p = simp (eq-eqb (length s) 61 h, w, p)
-
   pub other-length : (length s ≡ 61 → ⊥) → acceptedOf s ≡ false
   unfolding acceptedOf
   other-length h = ap (λ (b : Bool). b && isState s) (ne-eqb (length s) 61 h)
 
-  no-state : isState s ≡ false → (full : Bool) → full && isState s ≡ false
-  no-state e true = e
-  no-state e false = refl
-
-  pub neither : wellFormedOf (clockOf s) && plainOf s ≡ false → acceptedOf s ≡ false
-  unfolding acceptedOf isState
-  neither e = no-state e (fullOf s)
-
-  pub both : length s ≡ 61 → wellFormedOf (clockOf s) && plainOf s ≡ true → acceptedOf s ≡ true
-  both h e =
-      accepted h (and-left (wellFormedOf (clockOf s)) (plainOf s) e) (and-right (wellFormedOf (clockOf s)) (plainOf s) e)
-
   pub no-other : isState s ≡ false → acceptedOf s ≡ false
   unfolding acceptedOf
-  no-other e = no-state e (fullOf s)
+  no-other e = simp (e, and-false)
 
 -- bytes that are accepted have the length of a state and are one's
 module _ (s : List ℕ) (e : acceptedOf s ≡ true) where
@@ -68,14 +52,6 @@ module _ (s : List ℕ) (e : acceptedOf s ≡ true) where
   pub accepted-state : isState s ≡ true
   unfolding acceptedOf
   accepted-state = and-right (fullOf s) (isState s) e
-
--- what only looks at a state
-module _ (s : List ℕ) (n : ℕ) where
-  pub shown-refused : acceptedOf s ≡ false → _≡_ {A = ℕ} 1 (cond (acceptedOf s) n 1)
-  shown-refused e = sym (ap (λ (b : Bool). cond b n 1) e)
-
-  pub shown-taken : acceptedOf s ≡ true → n ≡ cond (acceptedOf s) n 1
-  shown-taken e = sym (ap (λ (b : Bool). cond b n 1) e)
 
 -- all bytes are written where there is room for them
 pub put-full : (s bytes : List ℕ) → length s ≡ 61 → putState s bytes ≡ bytes

@@ -4,6 +4,7 @@ use mathlib.Core.List.{List, [], _∷_}
 use Prim.Native.Nat.{ℕ}
 use lib.Dec.{eqb}
 use lib.ListN.{length}
+use Rattle.events.specs.declared.answer.Answer.{Answer}
 use Rattle.events.specs.declared.answer.Answer.the-variants.{Quiet, Byte}
 use Rattle.events.specs.declared.event.Event.{Event}
 use Rattle.sd2068.specs.declared.clock.Clock.{Clock}
@@ -12,8 +13,9 @@ use Rattle.sd2068.specs.Power.{powerOnOf}
 use Rattle.sd2068.specs.Pin as pin
 use Rattle.sd2068.specs.Reading as reading
 use Rattle.sd2068.specs.Step.{quietOf, eventOf, refusalOf}
+use Rattle.sd2068.specs.WellFormed.{wellFormedOf}
 use Rattle.script.specs.File as script
-use Rattle.state_bytes.specs.Decoded.{clockOf, isState}
+use Rattle.state_bytes.specs.Decoded.{clockOf, plainOf, isState}
 use Rattle.state_bytes.specs.Encoded.{bytesOf}
 use Rattle.sd2068_abi.specs.Told.{toldOf, ranOf}
 
@@ -62,14 +64,22 @@ unfoldable pub afterIn : List ℕ → List Event → List ℕ
 afterIn s [] = s
 afterIn s (e ∷ es) = afterIn (stepOf s (e .kind) (e .byte) (e .count) .state) es
 
+-- the numbers that they tell
+unfoldable pub toldIn : List ℕ → List Event → List ℕ
+toldIn s [] = []
+toldIn s (e ∷ es) = stepOf s (e .kind) (e .byte) (e .count) .told ∷ toldIn (stepOf s (e .kind) (e .byte) (e .count) .state) es
+
+-- what a look at 61 bytes and the state that they stand for tells: its pin and an answer, or 1 where they are no state's
+unfoldable pub seenOf : List ℕ → Clock → Answer → ℕ
+seenOf s c answer = cond (wellFormedOf c && plainOf s) (toldOf 0 (pin.pinOf c) answer) 1
+
 -- the pin
 unfoldable pub pinOf : List ℕ → ℕ
-pinOf s = cond (acceptedOf s) (toldOf 0 (pin.pinOf (clockOf s)) Quiet) 1
+pinOf s = cond (fullOf s) (seenOf s (clockOf s) Quiet) 1
 
 -- a register as it stands
 unfoldable pub registerOf : List ℕ → ℕ → ℕ
-registerOf s a =
-    cond (acceptedOf s) (toldOf 0 (pin.pinOf (clockOf s)) (Byte (reading.registerOf (clockOf s) a))) 1
+registerOf s a = cond (fullOf s) (seenOf s (clockOf s) (Byte (reading.registerOf (clockOf s) a))) 1
 
 -- a run: what is told, the output, the state
 pub record LentRun : Type 0 where

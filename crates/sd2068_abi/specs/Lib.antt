@@ -1,2 +1,3 @@
 pub mod Told
 pub mod Abi
+pub mod Said

@@ -4,6 +4,7 @@ use crate::told::told;
 use events::Answer;
 use events::fault;
 use script::run;
+use sd2068::Clock;
 use sd2068::power_on;
 use state_bytes::bytes_of;
 use state_bytes::clock_of;
@@ -13,7 +14,7 @@ use state_bytes::plain;
 use state_events::answered;
 use state_events::put_state;
 ghost use mathlib.Core.Path.{_≡_};
-ghost use Rattle.sd2068_abi.specs.Abi.{lent, lentRun, powerOf, stepOf, pinOf, registerOf, runOf};
+ghost use Rattle.sd2068_abi.specs.Abi.{lent, lentRun, powerOf, stepOf, seenOf, pinOf, registerOf, runOf};
 
 mod told;
 
@@ -69,12 +70,7 @@ pub extern "C" fn tallowreed_pin(state: &[u8]) -> u32
         return 1;
     }
     let clock = clock_of(state);
-    if clock.well_formed() & plain(state) {
-        let quiet = Answer::Quiet;
-        told(0, clock.pin(), quiet)
-    } else {
-        1
-    }
+    seen(state, clock, Answer::Quiet)
 }
 
 // A register as it stands. (rule 10.7)
@@ -86,9 +82,15 @@ pub extern "C" fn tallowreed_register(state: &[u8], address: u8) -> u32
         return 1;
     }
     let clock = clock_of(state);
+    seen(state, clock, Answer::Byte(clock.register(address)))
+}
+
+// What a look at 61 bytes and the clock that they stand for tells. (rules 10.6 and 10.7)
+fn seen(state: &[u8], clock: Clock, answer: Answer) -> u32
+    ensures { λ r. ⌜ r ≡ seenOf (now (state .entry)) clock answer ⌝ }
+{
     if clock.well_formed() & plain(state) {
-        let byte = Answer::Byte(clock.register(address));
-        told(0, clock.pin(), byte)
+        told(0, clock.pin(), answer)
     } else {
         1
     }

@@ -1,76 +1,32 @@
--- Bytes that are no state's are refused; else the register is told. Assumes nothing.
+-- Bytes of another length are refused; else their state is looked at. Assumes nothing.
+use borrow.Author.Tests.{eq-eqb, ne-eqb}
 use Rattle.sd2068_abi.specs.Abi.{registerOf}
-use Rattle.events.specs.declared.answer.Answer.the-variants.{Byte}
-use Rattle.sd2068.specs.Reading as reading
-use Rattle.sd2068_abi.proofs.AbiLaws.{other-length, neither, both, shown-refused, shown-taken}
-use Rattle.sd2068_abi.specs.Told.{toldOf}
-use Rattle.state_bytes.specs.Decoded.{clockOf, plainOf}
-use Rattle.sd2068.specs.WellFormed.{wellFormedOf}
-use Rattle.sd2068.specs.Pin as pin
-use Rattle.sd2068.specs.declared.clock.Clock.{Clock}
-use Prim.Native.Nat.{ℕ}
-use mathlib.Core.List.{List}
-use mathlib.Core.Bool.{_&&_}
-use mathlib.Core.Path.{_≡_, sym, ap, _∙_}
 use Rattle.sd2068_abi.proofs.tallowreed_register.Statement.{statement}
 use Rattle.sd2068_abi.proofs.tallowreed_register.Tie as tie
 
 returns : tie.Need-returns
 unfolding registerOf
-returns c = shown-refused _ _ (other-length _ (c .if1 .taken))
+returns c = simp (ne-eqb _ _ (c .if1 .taken))
 
 clock-of-requires : tie.Need-clock-of-requires
 clock-of-requires c κs = tt
 
-well-formed-requires : tie.Need-well-formed-requires
-well-formed-requires c κs = tt
-
-plain-requires : tie.Need-plain-requires
-plain-requires c κs = tt
-
 register-requires : tie.Need-register-requires
 register-requires c κs = tt
 
-pin-requires : tie.Need-pin-requires
-pin-requires c κs = tt
-
-told-requires : tie.Need-told-requires
-told-requires c κs = tt
+seen-requires : tie.Need-seen-requires
+seen-requires c κs = tt
 
 returns-2 : tie.Need-returns-2
 unfolding registerOf
 returns-2 c =
-    let s : List ℕ = c .before .before .before .before .before .before .before .before .before .args .state .now in
-    let at : clockOf s ≡ c .before .before .before .before .before .before .clock-of .result = sym (c .before .before .before .before .before .before .clock-of .ensures) in
-    let plain : plainOf s ≡ c .before .before .before .before .plain .result = sym (c .before .before .before .before .plain .ensures) in
-    let judged : wellFormedOf (clockOf s) && plainOf s ≡ c .before .before .before .before .before .well-formed .result && c .before .before .before .before .plain .result =
-    λ i. (ap wellFormedOf at ∙ sym (c .before .before .before .before .before .well-formed .ensures)) i && plain i in
-    let a : ℕ = c .before .before .before .before .before .before .before .before .before .args .address in
-    let told : c .told .result ≡ toldOf 0 (pin.pinOf (clockOf s)) (Byte (reading.registerOf (clockOf s) a)) =
-    c .told .ensures
-    ∙ λ i. toldOf 0 ((c .before .pin .ensures ∙ ap pin.pinOf (sym at)) i) (Byte ((c .before .before .register .ensures ∙ ap (λ (x : Clock). reading.registerOf x a) (sym at)) i)) in
-    told ∙ shown-taken s _ (both s (c .before .before .before .before .before .before .before .if1 .left) (judged ∙ c .before .before .before .if2 .taken))
-
-returns-3 : tie.Need-returns-3
-unfolding registerOf
-returns-3 c =
-    let s : List ℕ = c .before .before .before .before .before .before .args .state .now in
-    let at : clockOf s ≡ c .before .before .before .clock-of .result = sym (c .before .before .before .clock-of .ensures) in
-    let plain : plainOf s ≡ c .before .plain .result = sym (c .before .plain .ensures) in
-    let judged : wellFormedOf (clockOf s) && plainOf s ≡ c .before .before .well-formed .result && c .before .plain .result =
-    λ i. (ap wellFormedOf at ∙ sym (c .before .before .well-formed .ensures)) i && plain i in
-    shown-refused s _ (neither s (judged ∙ c .if2 .left))
+    simp (
+      c .seen .ensures,
+      c .before .register .ensures,
+      c .before .before .clock-of .ensures,
+      eq-eqb _ _ (c .before .before .before .if1 .left),
+    )
 
 pub tallowreed-register-spec : {M : Type 1} → statement M
 tallowreed-register-spec =
-    tie.close
-    (tie.spec
-    returns
-    clock-of-requires
-    well-formed-requires
-    plain-requires
-    register-requires
-    pin-requires
-    told-requires
-    returns-2
-    returns-3)
+    tie.close (tie.spec returns clock-of-requires register-requires seen-requires returns-2)
