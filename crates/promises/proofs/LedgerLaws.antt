@@ -31,11 +31,11 @@ unfolding codes hourByteOf
 code-small Twelve n h = ltb→lt (hourByteOf Twelve n) 256 (each (λ (k : ℕ). ltb (hourByteOf Twelve k) 256) 24 tt n h)
 code-small TwentyFour n h = ltb→lt (hourByteOf TwentyFour n) 256 (each (λ (k : ℕ). ltb (hourByteOf TwentyFour k) 256) 24 tt n h)
 
-hours-small : (h : ℕ) → hourNumberOf h < 24 → h < 256
+pub hours-small : (h : ℕ) → hourNumberOf h < 24 → h < 256
 hours-small h l = subst (λ (x : ℕ). x < 256) (byte-number h l) (code-small (modeOf h) (hourNumberOf h) l)
 
 -- every byte comes back out of its text
-read-byte : (b : ℕ) → b < 256 → byteRead (textOf (Byte b)) ≡ b
+pub read-byte : (b : ℕ) → b < 256 → byteRead (textOf (Byte b)) ≡ b
 read-byte = agree (λ (b : ℕ). byteRead (textOf (Byte b))) (λ (b : ℕ). b) 256 tt
 
 -- and so does every field of two decimal digits

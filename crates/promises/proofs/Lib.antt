@@ -13,6 +13,7 @@ pub mod SeenLaws
 pub mod ViewLaws
 pub mod ScriptLaws
 pub mod LedgerLaws
+pub mod DigitLaws
 pub mod MarkedCases
 pub mod Witness
 pub mod ScriptWitness

@@ -6,4 +6,5 @@ pub mod Pulsed
 pub mod Seen
 pub mod Script
 pub mod Ledger
+pub mod Board
 pub mod Marked
