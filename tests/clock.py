@@ -27,6 +27,24 @@ EXAMPLE = ROOT / "examples" / "read.script"
 LINES = b"-- H\nAK H\n20 H\n19 H\n-- H\n"
 # The same script in words.
 TEXT = b"time 2006-12-20 18:19:20\nSTART 65 read-ack read-nak STOP\n"
+# What is said of input that can be read and is a text neither by its name nor by its first word.
+DOUBT = b"taken for a script file: it does not begin with a word of a text, nor does its name end in .text\n"
+# Bytes that can be read, and the number that they are refused with as a script file (rule 9.4): 8 if they are over
+# 16,384; else 4 if they are under 8; else 5, since bytes 4 and 5, the start byte count, are never 13h and 00h.
+BLANK = {
+    "newline": (b"\n", 4),
+    "spaces": (b" " * 6, 4),
+    "comment": (b"# crash log", 5),
+    "long": (b" " * 20000, 8),
+    "lines": (b"\n" * 16385, 8),
+}
+WORDED = {
+    "eight spaces": (b" " * 8, 5),
+    "as long as a file": (b"\n" * 16384, 5),
+    "prose": (b"Power lost. START again.\n", 5),
+    "a word that is none": (b"STRAT", 4),
+    "a hex dump": (b"05 00 1B 00 13 00 08 00\n", 5),
+}
 # One crate is all that the stand-in for the repository proves.
 BUILDS = b"clock: proving and building 1 crates, which takes some 15 s on two processors the first time\n"
 # Nothing takes so many seconds unless it hangs.
@@ -165,20 +183,87 @@ def cloned(**programs):
 def try_files(tries, folder):
     example = EXAMPLE.read_bytes()
     contents = {"short": example[:7], "long": bytes(16385), "empty": b"", "two words": example, "two\nlines": example}
-    for name, content in {**contents, "-dash": TEXT, "a.text": TEXT, "b.script": TEXT}.items():
+    for name, content in {**contents, "-dash": TEXT, "a.text": TEXT}.items():
         (folder / name).write_bytes(content)
     (folder / "link").symlink_to(CLOCK)
     tries.same("a file by name", run(EXAMPLE), (0, LINES, b""))
     tries.same("a command by a link", run(EXAMPLE, clock=folder / "link"), (0, LINES, b""))
-    owed = {"short": b"refused 4\n", "long": b"refused 8\n", "empty": b"refused 4\n"}
-    for name in ("short", "long", "empty", "two words", "two\nlines", "./-dash", "a.text", "b.script"):
-        tries.same(f"the file {name!r}", run(name, folder=folder), (0, owed.get(name, LINES), b""))
+    for name in ("two words", "two\nlines", "./-dash", "a.text"):
+        tries.same(f"the file {name!r}", run(name, folder=folder), (0, LINES, b""))
+    for name, number in {"short": 4, "long": 8, "empty": 4}.items():
+        tries.same(f"the file {name!r}", run(name, folder=folder), (1, b"refused %d\n" % number, b""))
     tries.same("a name behind --", run("--", "-dash", folder=folder), (0, LINES, b""))
     for given in (example, TEXT):
         tries.same("standard input", run(given=given), (0, LINES, b""))
         tries.same("standard input by its name", run("-", given=given), (0, LINES, b""))
         tries.same("standard input behind --", run("--", "-", given=given), (0, LINES, b""))
-    tries.same("nothing at all", run(), (0, b"refused 4\n", b""))
+    tries.same("nothing at all", run(), (1, b"refused 4\n", b""))
+
+
+# Text or bytes
+
+def try_ways(tries, what, number, *words, said=b"", **options):
+    """A script that is refused, made in each way, and what is said of its reading."""
+    line = b"refused %d" % number
+    tries.same(what, run(*words, **options), (1, line + b"\n", said))
+    status, out, err = run("--explain", *words, **options)
+    tries.same(f"{what}, explained", (status, out[:11], out.count(b"\n"), err), (1, line + b": ", 1, said))
+    status, out, err = run("--picture", *words, **options)
+    tries.same(f"{what}, pictured", (status, out, err[: len(said)]), (1, b"", said))
+    tries.same(f"{what}, why", b": no picture: " + line + b": " in err[len(said) :], True)
+
+
+def try_blank(tries, folder):
+    """Bytes without a word: a script file by its name, and no text beyond doubt without one."""
+    for name, (content, number) in BLANK.items():
+        (folder / f"{name}.script").write_bytes(content)
+        try_ways(tries, f"{name}.script", number, f"{name}.script", folder=folder)
+        doubt = b"clock: standard input: " + DOUBT
+        try_ways(tries, f"{name} on standard input", number, given=content, said=doubt)
+    for words, ending in ([], ".out"), (["--explain"], ".listing"), (["--picture"], ".svg"):
+        status, out, err = run(*words, ".", folder=folder)
+        told = [b": ".join(line.split(b": ")[:2]).decode() for line in out.splitlines()]
+        owed = [f"{name}.script: refused {number}" for name, (_, number) in sorted(BLANK.items())]
+        tries.same(f"blank scripts {words}", (status, told, err), (1, [*owed, "0 run, 5 refused, 0 failed"], b""))
+        outputs = {path.name: path.read_bytes()[:9] for path in folder.iterdir() if path.name.endswith(ending)}
+        refused = {f"{name}.script{ending}": b"refused %d" % number for name, (_, number) in BLANK.items()}
+        tries.same(f"their outputs {words}", outputs, {} if ending == ".svg" else refused)
+
+
+def try_content(tries, folder):
+    """Standard input and other names: a text begins with a word of its own form, behind blank lines and comments."""
+    for what, (content, number) in WORDED.items():
+        tries.same(what, run(given=content), (1, b"refused %d\n" % number, b"clock: standard input: " + DOUBT))
+    for content in (b"\xEF\xBB\xBF" + TEXT, b" \t\r\n# START\n\n" + TEXT, TEXT.upper().replace(b"\n", b"\r\n")):
+        tries.same(f"{content}", run(given=content), (0, LINES, b""))
+    for name, content in {"a.txt": TEXT, "b.text.bak": TEXT, "c.TEXT": TEXT, "text": TEXT}.items():
+        (folder / name).write_bytes(content)
+        tries.same(f"the file {name}", run(name, folder=folder), (0, LINES, b""))
+    (folder / "blank.txt").write_bytes(b"\n")
+    tries.same("a blank file", run("blank.txt", folder=folder), (1, b"refused 4\n", b"clock: blank.txt: " + DOUBT))
+    for given in (TEXT + b"\0", TEXT + b"\xFF"):
+        tries.same("a text with a byte of none", run(given=given), (1, b"refused 5\n", b""))
+
+
+def try_endings(tries, folder):
+    """What a name says holds, whatever the bytes are."""
+    (folder / "a.script").write_bytes(TEXT)
+    try_ways(tries, "a text as a script file", 5, "a.script", folder=folder)
+    (folder / "long.text").write_bytes(b"#" * 20000 + b"\n" + TEXT)
+    tries.same("a long text", run("long.text", folder=folder), (0, LINES, b""))
+    for content, lines in {b"\n": b"", b"# crash log": b"", b"64": b"NK H\n"}.items():
+        (folder / "few.text").write_bytes(content)
+        tries.same(f"the text {content}", run("few.text", folder=folder), (0, lines, b""))
+    bad = {
+        b"START\nSTOP\0": "line 2, column 5: control character 00h",
+        # The hour, at byte 10; the whole is decoded before its first character is judged.
+        EXAMPLE.read_bytes(): "line 1, column 11: the byte 98h is not UTF-8",
+        b"": "line 1, column 1: the text is empty",
+        b"#" * 1048577: "line 1, column 1048577: the text goes over 1048576 bytes",
+    }
+    for content, says in bad.items():
+        (folder / "bad.text").write_bytes(content)
+        tries.same(says, run("bad.text", folder=folder), (2, b"", f"clock: bad.text: {says}\n".encode()))
 
 
 def piecewise(data, size):
@@ -197,7 +282,7 @@ def try_pipes(tries):
     tries.same("a long pipe in pieces", piecewise(bytes(16385), 6000), b"refused 8\n")
     ours, pipe = os.pipe()
     os.write(pipe, bytes(16385))
-    tries.same("a long pipe that stays open", ended(begun(stdin=ours)), (0, b"refused 8\n", b""))
+    tries.same("a long pipe that stays open", ended(begun(stdin=ours)), (1, b"refused 8\n", b""))
     os.close(ours)
     os.close(pipe)
 
@@ -208,8 +293,10 @@ def try_long_texts(tries):
         comment = b"#" * (1 + shift) + "é".encode() * 10000 + b"\n"
         tries.same("a long text", run(given=comment + TEXT), (0, LINES, b""))
         endless = b"#" * (1 + shift) + "é".encode() * (1 << 19)
-        tries.complains("a text that is too long", run(given=endless), b"standard input: line 1, column ")
-    tries.same("a long text with a NUL", run(given=b"#" * 16384 + b"\0" + TEXT), (0, b"refused 8\n", b""))
+        tries.complains("a text that is too long", run(given=b"STOP" + endless), b"standard input: line 1, column ")
+        doubt = b"clock: standard input: " + DOUBT
+        tries.same("an endless comment", run(given=endless), (1, b"refused 8\n", doubt))
+    tries.same("a long text with a NUL", run(given=b"#" * 16384 + b"\0" + TEXT), (1, b"refused 8\n", b""))
 
 
 def try_bad_calls(tries, folder):
@@ -217,7 +304,7 @@ def try_bad_calls(tries, folder):
     bad = b"clock: bad.text: line 2, column 6: no such word: STRAT\n"
     tries.same("a bad text", run("bad.text", folder=folder), (2, b"", bad))
     tries.same("a bad text, explained", run("--explain", "bad.text", folder=folder), (2, b"", bad))
-    tries.complains("a bad text on standard input", run(given=b"STRAT"), b"clock: standard input: line 1, column 1: ")
+    tries.complains("a bad text on standard input", run(given=b"STOP STRAT"), b": standard input: line 1, column 6: ")
     tries.complains("no such file", run("missing", folder=folder), b"clock: missing: no such file")
     tries.complains("no such file of two lines", run("a\nb", folder=folder), rb"'a\nb'")
     tries.complains("no name", run(""), b"no such file")
@@ -240,7 +327,8 @@ def try_help(tries):
     tries.same("help", (status, out[:7], err), (0, b"usage: ", b""))
     for words in (["-h"], ["--explain", "--help", "missing"]):
         tries.same(f"help by {words}", run(*words), (0, out, b""))
-    for word in ("--explain", "--picture", "--help", "FILE", "FOLDER", "NAME.out", "refused", "status", "examples:"):
+    words = ("--explain", "--picture", "--help", "FILE", "FOLDER", "NAME.out", "refused", "status", "examples:")
+    for word in (*words, "in .script", "in .text"):
         tries.same(f"help on {word}", word in out.decode(), True)
     tries.complains("help is no option behind --", run("--", "--help"), b"no such file")
 
@@ -276,7 +364,7 @@ def try_explained(tries, folder):
         tries.same("a summary", summary.startswith(b"5 events"), True)
     (folder / "kind").write_bytes(bytes([2, 0, 27, 0, 19, 0, 8, 0]) + bytes(19) + bytes(4) + bytes([9, 0, 0, 0]))
     status, out, err = run("--explain", "kind", folder=folder)
-    tries.same("explained, refused", (status, out[:18], err), (0, b"refused 2, event 1", b""))
+    tries.same("explained, refused", (status, out[:18], err), (1, b"refused 2, event 1", b""))
     tries.same("one line", (out.count(b"\n"), len(out) > 30), (1, True))
 
 
@@ -332,6 +420,9 @@ def try_failing(tries):
     tries.complains("no facts", clone.run("--explain", EXAMPLE), b"line 1 of the facts")
     clone = cloned(explain="\n".join(f"echo '{line}'" for line in FACTS[:2]) + "\nexit 3").build()
     tries.complains("half of the facts", clone.run("--picture", EXAMPLE), b"the program explain ended with status 3")
+    (clone.folder / "tools" / "program").unlink()
+    for name in (EXAMPLE, EXAMPLE.parent):
+        tries.complains(f"no tool to build with: {name}", clone.run(name), b"No such file or directory")
 
 
 def try_interrupt(tries):
@@ -355,7 +446,7 @@ def wait_for(path):
 
 def try_building(tries):
     clone = cloned(clock="cat >/dev/null; echo built")
-    tries.complains("no build for a bad text", clone.run(given=b"STRAT"), b"line 1, column 1")
+    tries.complains("no build for a bad text", clone.run(given=b"STOP STRAT"), b"line 1, column 6")
     tries.same("the first run", clone.run(EXAMPLE), (0, b"built\n", BUILDS))
     tries.same("the second run", clone.run(EXAMPLE), (0, b"built\n", b""))
     os.utime(clone.folder / "crates/clock/src/main.rt", (time.time() + 1,) * 2)
@@ -430,6 +521,9 @@ def main():
         folder = Path(name)
         for group in (try_files, try_bad_calls, try_streams, try_explained, try_pictured, try_words):
             group(tries, folder)
+    for group in (try_blank, try_content, try_endings):
+        with tempfile.TemporaryDirectory() as name:
+            group(tries, Path(name))
     groups = (try_model, try_pipes, try_long_texts, try_help, try_progress, try_progress_line)
     for group in (*groups, try_failing, try_interrupt, try_building, try_two_builds, try_without_rt, try_settings):
         group(tries)

@@ -17,6 +17,10 @@ from clock import BUILDS, CLOCK, LINES, ROOT, TEXT, Tries, begun, cloned, ended,
 
 EXAMPLE = (ROOT / "examples" / "read.script").read_bytes()
 UNDER_8 = b"refused 4: the file has under 8 bytes\n"
+NOT_19 = (
+    b"refused 5: the start bytes are not 19, or a section is not in the file, "
+    b"or shares a byte with the header or the other\n"
+)
 
 
 def filled(folder, contents):
@@ -37,13 +41,15 @@ def drafts(folder):
 
 def try_mixed(tries, folder):
     """Everything that a folder can have, in one."""
-    scripts = {"good.script": EXAMPLE, "good.text": TEXT, "swapped.text": EXAMPLE, "two words.script": TEXT}
+    scripts = {"good.script": EXAMPLE, "good.text": TEXT, "two words.script": EXAMPLE}
     odd = {"a\nb.script": EXAMPLE, "-dash.script": EXAMPLE, "\u00e9.text": TEXT}
     # As long as a name may be, so that its output can have none.
     longest = "n" * 248 + ".script"
     bad = {"bad.text": b"START\nSTRAT\n", "empty.script": b"", "short.script": b"\0", "taken.script": EXAMPLE}
+    # A name tells bytes from text, whatever is in the file.
+    swapped = {"swapped.script": TEXT, "swapped.text": EXAMPLE}
     others = {".hidden.script": EXAMPLE, "other.txt": TEXT, "SHOUTED.SCRIPT": EXAMPLE, "script": EXAMPLE, ".text": TEXT}
-    filled(folder, {**scripts, **odd, **bad, **others, longest: EXAMPLE})
+    filled(folder, {**scripts, **odd, **bad, **swapped, **others, longest: EXAMPLE})
     filled(folder, {"good.script.out": b"old", "bad.text.out": b"old", "gone.script.out": b"old"})
     for name in ("within.script", "taken.script.out"):
         (folder / name).mkdir()
@@ -52,17 +58,18 @@ def try_mixed(tries, folder):
     (folder / "link.script").symlink_to("good.script")
     (folder / "lost.script").symlink_to("nowhere")
     summary = (
-        b"empty.script: " + UNDER_8 + b"short.script: " + UNDER_8
+        b"empty.script: " + UNDER_8 + b"short.script: " + UNDER_8 + b"swapped.script: " + NOT_19
         + b"bad.text: failed: line 2, column 1: no such word: STRAT\n"
         + b"lost.script: failed: no such file\n"
         + f"{longest}: failed: {longest}.out: File name too long\n".encode()
+        + b"swapped.text: failed: line 1, column 11: the byte 98h is not UTF-8\n"
         + b"taken.script: failed: taken.script.out: Is a directory; an older taken.script.out stays\n"
-        + b"8 run, 2 refused, 4 failed\n"
+        + b"7 run, 3 refused, 5 failed\n"
     )
     tries.same("a mixed folder", run(folder), (2, summary, b""))
     run_ones = [*scripts, *odd, "link.script"]
     owed = {"empty.script.out": b"refused 4\n", "short.script.out": b"refused 4\n", "gone.script.out": b"old"}
-    owed.update({f"{name}.out": LINES for name in run_ones})
+    owed.update({f"{name}.out": LINES for name in run_ones}, **{"swapped.script.out": b"refused 5\n"})
     tries.same("its outputs", found(folder, ".out"), owed)
     tries.same("its drafts", drafts(folder), [])
     tries.same("folders within", os.listdir(folder / "within.script"), ["inner.script"])

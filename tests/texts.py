@@ -217,18 +217,35 @@ ERRORS = [
     ("layout length 30\ngap 27 00*3 00*16384", 2, 13, "byte 30 is past the end of the file, which has 30 bytes"),
 ]
 
-# What is a text by its bytes alone, and what is not.
+# Every word of the text form that is no byte.
+WORDS = (
+    "START STOP read-ack read-nak pulses seconds power-loss unlock lock set-time read-time write read "
+    "time time-bytes ram layout gap"
+).split()
+
+# What is a text beyond doubt by its bytes alone, and what is not.
 TEXTS = {
+    **{word.encode(): True for word in WORDS},
     b"": False,
-    b"START": True,
-    b" \t\r\n": True,
+    b" \t\r\n": False,
+    b"# START": False,
+    b"# \xC3\xA4\r\n\n \tread-TIME*2#": True,
+    b"\xEF\xBB\xBFSTOP": True,
     b"STOP\rSTOP": True,
-    b"# \xC3\xA4": True,
-    b"# \xC3": False,
+    b"STOP zz # \xC3\xA4": True,
+    b"zz STOP": False,
+    b"zz\nSTOP": False,
+    b"*2 STOP": False,
+    b"64 START": False,
+    b"FF*2": False,
+    b"STARTS": False,
+    b"START\xC2\xA064": False,
+    b"loc\xE2\x84\xAA": False,
+    b"STOP \xC3": False,
     b"STOP\x00": False,
     b"STOP\x1B": False,
-    b"# \xC2\x85": False,
-    b"\x7F": False,
+    b"STOP # \xC2\x85": False,
+    b"STOP \x7F": False,
 }
 
 # Files and their listings. The first has nothing at its usual place, an hour 33h, and a transfer of 18 words.
@@ -405,6 +422,8 @@ def meanings():
         yield from differing(short(given), bytes.fromhex(owed), assembled(given))
     for data, owed in TEXTS.items():
         yield from differing(f"{data} as a text", owed, text.is_text(data))
+    for data, owed in ((b"STOP \xC3", True), (b"STOP \xC3\xC3", False), (b"STOP \xFF", False)):
+        yield from differing(f"{data} and more as a text", owed, text.is_text(data, True))
 
 
 def hours():
@@ -544,6 +563,7 @@ def complaints(folder):
         (b"\0" * 7, ("list", "-", "kept"), 1, "standard input: refused 4: the file has under 8 bytes\n"),
         (b"\0" * 20000, ("list", "-"), 1, "standard input: refused 8: the file has over 16,384 bytes\n"),
         ("START 65", ("list", "-"), 1, f"standard input: {FIVE}; it is a text, which assemble takes\n"),
+        ("# crash log", ("list", "-"), 1, f"standard input: {FIVE}\n"),
         (two, ("list", "-", "kept"), 1, "standard input: refused 2, event 0: an event's kind is over 6\n"),
     ]
     (folder / "kept").write_bytes(b"kept")

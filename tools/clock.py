@@ -14,8 +14,9 @@ HELP = """\
 usage: ./clock [--explain | --picture] [FILE | FOLDER]
 
 Runs a script on the proved clock and prints a line for each event: what the wire answers, and the level of the
-interrupt pin. A script is a script file or its text form; its content tells which. Without a name, or with -, it is
-standard input. A script that is refused prints "refused N" alone.
+interrupt pin. A script is a script file, whose name ends in .script, or a text, whose name ends in .text. Without a
+name, or with -, it is standard input. That, like a file of another name, is taken for a text if it begins with a word
+of one, comments aside, and for a script file if not. A script that is refused prints "refused N" alone.
 
   --explain  prints each line with words behind it that say what the event did, and then a summary
   --picture  prints the run as an SVG picture instead
@@ -26,8 +27,8 @@ Of a folder every script is run whose name ends in .script or .text, those in fo
 of NAME goes to NAME.out beside it, with --explain to NAME.listing and with --picture to NAME.svg; a script that fails
 has none, and stops no other. A summary tells which were refused and which failed.
 
-The exit status is 0, also for a script that is refused, and 2 where the call cannot be done. A refused script has no
-picture: there it is 1. For a folder it is 0 if all were run, 1 if some were refused, 2 if some failed.
+The exit status, for one script as for a folder, is 0 if all were run, 1 if some were refused and 2 if some failed, or
+if the call cannot be done.
 
 examples:
   ./clock examples/read.script
@@ -106,24 +107,34 @@ def opened(name):
     return contextlib.nullcontext(sys.stdin.buffer)
 
 
-def looks_like_text(data, more):
-    """Where more would follow, the last character may be cut."""
-    return any(text.is_text(data[: len(data) - cut]) for cut in range(4 if more else 1))
-
-
-def script_in(file):
-    """The script file that is in a file, or that the text in it stands for; of long ones no more than tells."""
+def by_content(name, file):
+    """What no ending of a name tells: only what is a text beyond doubt is taken for one."""
     data = file.read(files.LONGEST + 1)
-    if len(data) > files.LONGEST and looks_like_text(data, True):
+    if len(data) > files.LONGEST and text.characters(data, True):
+        # A text may be longer than a file, and a long comment may stand before its first word.
         data += file.read(text.MOST_TEXT + 1 - len(data))
-    is_text = looks_like_text(data, len(data) > text.MOST_TEXT)
-    return text.assembled(data) if is_text else data[: files.LONGEST + 1]
+    more = len(data) > text.MOST_TEXT
+    if text.is_text(data, more):
+        return text.assembled(data)
+    if text.characters(data, more):
+        why = "it does not begin with a word of a text, nor does its name end in .text"
+        say(f"{place(name)}: taken for a script file: {why}")
+    return data[: files.LONGEST + 1]
+
+
+def script_in(name, file):
+    """The script file that is in a file, or that the text in it stands for; of long ones no more than tells."""
+    if name.endswith(files.ENDING):
+        return file.read(files.LONGEST + 1)
+    if name.endswith(text.ENDING):
+        return text.assembled(file.read(text.MOST_TEXT + 1))
+    return by_content(name, file)
 
 
 def read(name):
     try:
         with opened(name) as file:
-            return script_in(file)
+            return script_in(name, file)
     except FileNotFoundError:
         raise Failed("no such file") from None
     except OSError as error:
@@ -152,6 +163,11 @@ def say(line):
             os.write(sys.stderr.fileno(), f"clock: {line}\n".encode())
 
 
+def place(name):
+    """Where a script is, as a part of a line."""
+    return "standard input" if name == "-" else shown(name)
+
+
 def put(output):
     """Writes to standard output, all of it."""
     try:
@@ -166,18 +182,17 @@ def put(output):
 
 
 def run_one(way, name):
-    place = "standard input" if name == "-" else shown(name)
-    title = "standard input" if name == "-" else shown(os.path.basename(name))
+    title = place(name) if name == "-" else shown(os.path.basename(name))
     try:
         with programs.Progress(sys.stderr) as progress:
-            output = made(way, name, title, progress).output
+            found = made(way, name, title, progress)
     except facts.Refused as refused:
-        say(f"{place}: no picture: {files.Refused(refused.number, refused.index)}")
+        say(f"{place(name)}: no picture: {files.Refused(refused.number, refused.index)}")
         return 1
     except Failed as failed:
-        raise Complaint(f"{place}: {failed}") from failed
-    put(output)
-    return 0
+        raise Complaint(f"{place(name)}: {failed}") from failed
+    put(found.output)
+    return 1 if found.refusal else 0
 
 
 def run_folder(way, name):
@@ -238,6 +253,10 @@ def main():
         return 2
     except KeyboardInterrupt:
         return INTERRUPTED
+    except Exception as error:
+        # Python's own status for it is that of a refused script.
+        say(repr(error))
+        return 2
 
 
 if __name__ == "__main__":

@@ -3,6 +3,8 @@
 import struct
 from dataclasses import dataclass, field
 
+# The end of a script file's name.
+ENDING = ".script"
 HEADER = struct.Struct("<4H")
 EVENT = struct.Struct("<BBH")
 START_COUNT = 19

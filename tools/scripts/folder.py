@@ -7,10 +7,10 @@ import threading
 from concurrent.futures import ThreadPoolExecutor, as_completed
 from typing import NamedTuple, Optional
 
-from scripts import files, words
+from scripts import files, text, words
 from scripts.outputs import shown, write
 
-ENDINGS = (".script", ".text")
+ENDINGS = (files.ENDING, text.ENDING)
 # Of more refused scripts than this the summary tells how many each refusal has, and not their names.
 MOST_NAMED = 20
 

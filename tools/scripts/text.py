@@ -1,6 +1,7 @@
 """The text form of script files, described in docs/SCRIPTS.md: from a text to the bytes of its file."""
 
 import calendar
+import codecs
 import datetime
 import re
 from collections import deque
@@ -9,6 +10,8 @@ from typing import Optional
 
 from scripts import files
 
+# The end of a text's name.
+ENDING = ".text"
 MOST_TEXT = 1 << 20
 SECOND = 32768
 MOST_PULSES = files.MOST_EVENTS * files.MOST_PULSES
@@ -310,6 +313,10 @@ class Assembler:
             "read": self.take_read,
         }
 
+    def knows(self, name):
+        """Whether a word is one of the text form; a byte is none, and gives a value."""
+        return name in ALONE or name in self.leading or name in self.directives
+
     def take_line(self, words):
         if words[0].name in self.directives and not self.events:
             head = words.popleft()
@@ -473,16 +480,26 @@ def lines_of(text):
             yield words
 
 
-def is_text(data):
-    """Whether bytes are a text and not a script file.
-
-    No accepted file is taken for a text: its byte 5 is the high byte of the start byte count, 19, and so a NUL.
-    """
+def characters(data, more=False):
+    """The characters of what can be read, else none; where more would follow, the last one may be cut."""
     try:
-        text = data.decode("utf-8")
+        found = codecs.getincrementaldecoder("utf-8-sig")().decode(data, not more)
     except UnicodeDecodeError:
-        return False
-    return text != "" and not CONTROL.search(text.replace("\r", ""))
+        return ""
+    return "" if CONTROL.search(found.replace("\r", "")) else found
+
+
+def is_text(data, more=False):
+    """Whether bytes are a text beyond doubt: they can be read, and their first word is one of the text form.
+
+    Blank lines and comments say nothing, and a hex dump begins with bytes. No accepted file is taken for a text: its
+    byte 5 is the high byte of the start byte count, 19, and so a NUL.
+    """
+    for line in characters(data, more).split("\n"):
+        word = re.search(r"[^ \t\r]+", line.partition("#")[0])
+        if word:
+            return Assembler().knows(lowered(word.group().partition("*")[0]))
+    return False
 
 
 def assembled(data):
