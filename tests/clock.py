@@ -38,7 +38,7 @@ BLANK = {
     "long": (b" " * 20000, 8),
     "lines": (b"\n" * 16385, 8),
 }
-WORDED = {
+DOUBTFUL = {
     "eight spaces": (b" " * 8, 5),
     "as long as a file": (b"\n" * 16384, 5),
     "prose": (b"Power lost. START again.\n", 5),
@@ -232,12 +232,12 @@ def try_blank(tries, folder):
 
 def try_content(tries, folder):
     """Standard input and other names: a text begins with a word of its own form, behind blank lines and comments."""
-    for what, (content, number) in WORDED.items():
+    for what, (content, number) in DOUBTFUL.items():
         tries.same(what, run(given=content), (1, b"refused %d\n" % number, b"clock: standard input: " + DOUBT))
     for content in (b"\xEF\xBB\xBF" + TEXT, b" \t\r\n# START\n\n" + TEXT, TEXT.upper().replace(b"\n", b"\r\n")):
         tries.same(f"{content}", run(given=content), (0, LINES, b""))
-    for name, content in {"a.txt": TEXT, "b.text.bak": TEXT, "c.TEXT": TEXT, "text": TEXT}.items():
-        (folder / name).write_bytes(content)
+    for name in ("a.txt", "b.text.bak", "c.TEXT", "text"):
+        (folder / name).write_bytes(TEXT)
         tries.same(f"the file {name}", run(name, folder=folder), (0, LINES, b""))
     (folder / "blank.txt").write_bytes(b"\n")
     tries.same("a blank file", run("blank.txt", folder=folder), (1, b"refused 4\n", b"clock: blank.txt: " + DOUBT))
