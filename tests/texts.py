@@ -217,7 +217,7 @@ ERRORS = [
     ("layout length 30\ngap 27 00*3 00*16384", 2, 13, "byte 30 is past the end of the file, which has 30 bytes"),
 ]
 
-# Every word of the text form that is no byte.
+# Every word but a byte that a line can begin with.
 WORDS = (
     "START STOP read-ack read-nak pulses seconds power-loss unlock lock set-time read-time write read "
     "time time-bytes ram layout gap"
@@ -239,6 +239,7 @@ TEXTS = {
     b"64 START": False,
     b"FF*2": False,
     b"STARTS": False,
+    b"AM STOP": False,
     b"START\xC2\xA064": False,
     b"loc\xE2\x84\xAA": False,
     b"STOP \xC3": False,

@@ -314,7 +314,7 @@ class Assembler:
         }
 
     def knows(self, name):
-        """Whether a word is one of the text form; a byte is none, and gives a value."""
+        """Whether a line can begin with this word; a byte is left out."""
         return name in ALONE or name in self.leading or name in self.directives
 
     def take_line(self, words):
@@ -490,7 +490,7 @@ def characters(data, more=False):
 
 
 def is_text(data, more=False):
-    """Whether bytes are a text beyond doubt: they can be read, and their first word is one of the text form.
+    """Whether bytes are a text beyond doubt: they can be read, and a line can begin with their first word.
 
     Blank lines and comments say nothing, and a hex dump begins with bytes. No accepted file is taken for a text: its
     byte 5 is the high byte of the start byte count, 19, and so a NUL.
