@@ -15,7 +15,7 @@ use Rattle.events.specs.declared.event.Event.{Event}
 use Rattle.events.specs.declared.answer.Answer.the-variants.{Byte}
 use Rattle.events.specs.Answer.{digitOf, textOf}
 use Rattle.sd2068.specs.Run.{readBy}
-use Rattle.sd2068_abi.specs.Said.{answerIn, byteIn, textBy, textIn, readsIn}
+use Rattle.sd2068_abi.specs.Said.{answerIn, byteIn, textIn, saidIn, readsIn}
 use Rattle.promises.specs.Ledger.{byteRead}
 use Rattle.promises.specs.Board.{bytesIn}
 use Rattle.promises.proofs.LedgerLaws.{hours-small, read-byte}
@@ -74,12 +74,12 @@ by-read :
 by-read true n ns bs rest told small e go = one-read n ns bs rest told small e go
 by-read false n ns bs rest told small e go = go bs small e
 
-pub reads-bytes : (es : List Event) (ns bs : List ℕ) → Small bs → readsIn es ns ≡ texts bs → bytesIn es ns ≡ bs
+pub reads-bytes : (es : List Event) (ns bs : List ℕ) → Small bs → readsIn es (map saidIn ns) ≡ texts bs → bytesIn es ns ≡ bs
 unfolding readsIn bytesIn
 reads-bytes [] ns bs small e = nothing bs e
 reads-bytes (q ∷ es) [] bs small e = nothing bs e
 reads-bytes (q ∷ es) (n ∷ ns) bs small e =
-    by-read (readBy q) n ns bs (readsIn es ns) (bytesIn es ns) small e (λ cs x y. reads-bytes es ns cs x y)
+    by-read (readBy q) n ns bs (readsIn es (map saidIn ns)) (bytesIn es ns) small e (λ cs x y. reads-bytes es ns cs x y)
 
 -- the bytes of a legal time
 pub time-small : (t : Time) (k : ℕ) → Legal t k → Small (bytesOf t)

@@ -14,6 +14,7 @@ pub mod ViewLaws
 pub mod ScriptLaws
 pub mod LedgerLaws
 pub mod DigitLaws
+pub mod BoardLaws
 pub mod MarkedCases
 pub mod Witness
 pub mod ScriptWitness
