@@ -1,3 +1,4 @@
 pub mod DeedLaws
+pub mod RowLaws
 pub mod MomentLaws
 pub mod Settled

@@ -71,24 +71,33 @@ at c = c .bus .pointer
 abbrev pub live : Clock → List ℕ
 live c = bytesOf (c .hand .time)
 
--- an event of byte b or n pulses that is not refused: its deed on a state, and what it answers and leaves
-pub data Done (c : Clock) (b n : ℕ) : Deed → Answered → Type 0 where
-  opened : Shut c → Done c b n deed.Opened (quietOf (led c (at c) Address (record { age = 0; marked = false })))
-  repeated : {m : Mode} {t : Transfer} → In c m t → Done c b n deed.Repeated (quietOf (led c (at c) Address t))
-  idle : Shut c → Done c b n deed.Idle (quietOf (withBus c closedBus))
-  closed : {m : Mode} {t : Transfer} → In c m t → Done c b n deed.Closed (quietOf (withBus c closedBus))
-  cleared : {m : Mode} {t : Transfer} → In c m t → t .marked ≡ true → arstOf (c .control .ctr3) ≡ true → Done c b n deed.Cleared (quietOf (withBus (flagsKept false c) closedBus))
-  toWrite : {t : Transfer} → In c Address t → b ≡ 0x64 → Done c b n deed.ToWrite (answering Ack (led c (at c) Pointer t))
-  toRead : {t : Transfer} → In c Address t → b ≡ 0x65 → Done c b n deed.ToRead (answering Ack (led (withLatched c (live c)) (at c) Reading t))
-  elsewhere : {t : Transfer} → In c Address t → (b ≡ 0x64 → ⊥) → (b ≡ 0x65 → ⊥) → Done c b n deed.Elsewhere (answering Nak (led c (at c) Deaf t))
-  pointed : {t : Transfer} → In c Pointer t → b < 0x20 → Done c b n (deed.Pointed b) (answering Ack (led c b Writing t))
-  beyond : {t : Transfer} → In c Pointer t → 0x20 ≤ b → Done c b n deed.Beyond (answering Nak (led c (at c) Deaf t))
-  stored : {t : Transfer} → In c Writing t → storesOf c (at c) b ≡ true → Done c b n (deed.Stored (at c)) (answering Ack (led (writtenBy true c (at c) b) (nextOf (at c)) Writing t))
-  lost : {t : Transfer} → In c Writing t → storesOf c (at c) b ≡ false → Done c b n (deed.Lost (at c)) (answering Ack (led (withLock c (writtenOf (c .lock) (at c) b)) (nextOf (at c)) Writing t))
-  unheard : hears (c .bus .phase) ≡ false → Done c b n deed.Unheard (answering Nak c)
-  latched : {t : Transfer} (ack : Bool) → In c Reading t → at c < 0x07 → Done c b n (deed.Latched (at c)) (answering (Byte (getD (c .latched) (at c) 0)) (withBus c (movedOf (at c) t ack)))
-  sent : {t : Transfer} (ack : Bool) → In c Reading t → 0x07 ≤ at c → (nextOf (at c) ≡ 0x00 → ⊥) → Done c b n (deed.Sent (at c)) (answering (Byte (registerOf c (at c))) (withBus c (movedOf (at c) t ack)))
-  renewed : {t : Transfer} (ack : Bool) → In c Reading t → 0x07 ≤ at c → nextOf (at c) ≡ 0x00 → Done c b n (deed.Renewed (at c)) (answering (Byte (registerOf c (at c))) (withBus (withLatched c (live c)) (movedOf (at c) t ack)))
-  silent : reads (c .bus .phase) ≡ false → Done c b n deed.Silent (answering (Byte 0xFF) c)
-  passed : Done c b n deed.Passed (quietOf (pulsesOf c n))
-  powerLost : Done c b n deed.PowerLost (quietOf (lostOf c))
+-- STOP clears the flags: ARST is 1, and 0Fh was read in the transfer
+abbrev pub Clears : Clock → Transfer → Type 0
+Clears c t = (arstOf (c .control .ctr3) ≡ true) × (t .marked ≡ true)
+
+-- the kinds of a read
+pub data ReadKind : ℕ → Bool → Type 0 where
+  withAck : ReadKind 3 true
+  withNak : ReadKind 4 false
+
+-- an event of byte b or n pulses that is not refused: its kind, its deed on a state, and what it answers and leaves
+pub data Done (c : Clock) (kind b n : ℕ) : Deed → Answered → Type 0 where
+  opened : kind ≡ 0 → Shut c → Done c kind b n deed.Opened (quietOf (led c (at c) Address (record { age = 0; marked = false })))
+  repeated : {m : Mode} {t : Transfer} → kind ≡ 0 → In c m t → Done c kind b n deed.Repeated (quietOf (led c (at c) Address t))
+  idle : kind ≡ 1 → Shut c → Done c kind b n deed.Idle (quietOf (withBus c closedBus))
+  closed : {m : Mode} {t : Transfer} → kind ≡ 1 → In c m t → (Clears c t → ⊥) → Done c kind b n deed.Closed (quietOf (withBus c closedBus))
+  cleared : {m : Mode} {t : Transfer} → kind ≡ 1 → In c m t → Clears c t → Done c kind b n deed.Cleared (quietOf (withBus (flagsKept false c) closedBus))
+  toWrite : {t : Transfer} → kind ≡ 2 → In c Address t → b ≡ 0x64 → Done c kind b n deed.ToWrite (answering Ack (led c (at c) Pointer t))
+  toRead : {t : Transfer} → kind ≡ 2 → In c Address t → b ≡ 0x65 → Done c kind b n deed.ToRead (answering Ack (led (withLatched c (live c)) (at c) Reading t))
+  elsewhere : {t : Transfer} → kind ≡ 2 → In c Address t → (b ≡ 0x64 → ⊥) → (b ≡ 0x65 → ⊥) → Done c kind b n deed.Elsewhere (answering Nak (led c (at c) Deaf t))
+  pointed : {t : Transfer} → kind ≡ 2 → In c Pointer t → b < 0x20 → Done c kind b n (deed.Pointed b) (answering Ack (led c b Writing t))
+  beyond : {t : Transfer} → kind ≡ 2 → In c Pointer t → 0x20 ≤ b → Done c kind b n deed.Beyond (answering Nak (led c (at c) Deaf t))
+  stored : {t : Transfer} → kind ≡ 2 → In c Writing t → storesOf c (at c) b ≡ true → Done c kind b n (deed.Stored (at c)) (answering Ack (led (writtenBy true c (at c) b) (nextOf (at c)) Writing t))
+  lost : {t : Transfer} → kind ≡ 2 → In c Writing t → storesOf c (at c) b ≡ false → Done c kind b n (deed.Lost (at c)) (answering Ack (led (withLock c (writtenOf (c .lock) (at c) b)) (nextOf (at c)) Writing t))
+  unheard : kind ≡ 2 → hears (c .bus .phase) ≡ false → Done c kind b n deed.Unheard (answering Nak c)
+  latched : {t : Transfer} {ack : Bool} → ReadKind kind ack → In c Reading t → at c < 0x07 → Done c kind b n (deed.Latched (at c)) (answering (Byte (getD (c .latched) (at c) 0)) (withBus c (movedOf (at c) t ack)))
+  sent : {t : Transfer} {ack : Bool} → ReadKind kind ack → In c Reading t → 0x07 ≤ at c → (nextOf (at c) ≡ 0x00 → ⊥) → Done c kind b n (deed.Sent (at c)) (answering (Byte (registerOf c (at c))) (withBus c (movedOf (at c) t ack)))
+  renewed : {t : Transfer} {ack : Bool} → ReadKind kind ack → In c Reading t → 0x07 ≤ at c → nextOf (at c) ≡ 0x00 → Done c kind b n (deed.Renewed (at c)) (answering (Byte (registerOf c (at c))) (withBus (withLatched c (live c)) (movedOf (at c) t ack)))
+  silent : {ack : Bool} → ReadKind kind ack → reads (c .bus .phase) ≡ false → Done c kind b n deed.Silent (answering (Byte 0xFF) c)
+  passed : kind ≡ 5 → Done c kind b n deed.Passed (quietOf (pulsesOf c n))
+  powerLost : kind ≡ 6 → Done c kind b n deed.PowerLost (quietOf (lostOf c))
