@@ -9,6 +9,7 @@ use lib.ListN.{length, drop}
 use Rattle.fields.specs.Hours.{modeOf, hourNumberOf}
 use Rattle.calendar.specs.declared.time.Time.{Time}
 use Rattle.calendar.specs.Numbers.{numberOf}
+use Rattle.calendar.specs.Repeat.{times}
 use Rattle.registers.specs.Fixed.{keptOf, clearOf}
 use Rattle.hand.specs.Span.{Legal}
 use Rattle.bus.specs.declared.phase.Mode.the-variants.{Writing, Reading}
@@ -21,12 +22,14 @@ use Rattle.sd2068.specs.Power.{zeroStart, powerOnOf}
 use Rattle.sd2068.specs.Reading.{registerOf}
 use Rattle.sd2068.specs.Pin.{pinOf}
 use Rattle.sd2068.specs.WellFormed.{wellFormedOf, Listed}
-use Rattle.sd2068.specs.Step.{Told, stepOf}
+use Rattle.sd2068.specs.declared.answers.Answered.{Answered}
+use Rattle.sd2068.specs.Pulse.{pulseOf, pulsesOf}
+use Rattle.sd2068.specs.Step.{Told, toldOf, eventOf, stepOf}
 use Rattle.sd2068.specs.Rows.{StepDue, PowerDue}
 use Rattle.sd2068.specs.Run as Run
 use Rattle.sd2068.specs.Run.{nak, step, event, after, pulsesIn, readBy, byteBy}
 use Rattle.sd2068.specs.Kept.{Pointed, ageOf, Pointing, pulsesSince, Kept, readBack, shownBy, ReadsBack, KeepsTime}
-use Rattle.sd2068.proofs.WellLaws.{whole, power-on-well, steps-well}
+use Rattle.sd2068.proofs.WellLaws.{parts, whole, power-on-well, steps-well}
 use Rattle.sd2068.proofs.RowLaws as rows
 use Rattle.sd2068.proofs.ListedLaws.{well-listed, listed-well}
 use Rattle.sd2068.proofs.SettingLaws as setting
@@ -38,6 +41,14 @@ use Rattle.script.specs.Lines.{linesOf}
 use Rattle.script.specs.File.{Run, runOf}
 use Rattle.script.proofs.RunLaws as script
 use Rattle.script.proofs.Settled as scripts
+use Rattle.facts.specs.declared.deeds.Deed.{Deed}
+use Rattle.facts.specs.declared.deeds.Deed.the-variants as deed
+use Rattle.facts.specs.Deeds.{deedOf}
+use Rattle.facts.specs.Done.{Done}
+use Rattle.facts.specs.Moments.{momentOf, pulseMoment}
+use Rattle.facts.proofs.DeedLaws as deeds
+use Rattle.facts.proofs.RowLaws as rows-of-deeds
+use Rattle.facts.proofs.MomentLaws as moments
 use Rattle.promises.specs.Fixed.{fixed}
 use Rattle.promises.specs.Registers.{bit, viewOf, Looks, State}
 use Rattle.promises.specs.Seen.{Seen, Shows, startSeen, stopSeen, byteSeen, readSeen, pulsesSeen, lossSeen, poweredView, startAt, eventSeen}
@@ -268,6 +279,34 @@ pub collide :
     ∷ record { second = some 219934800; hour = 13; id = 1 ∷ 2 ∷ 2 ∷ 0 ∷ 2 ∷ 1 ∷ 0 ∷ 0 ∷ [] }
     ∷ []
 collide = ledger.collide
+
+-- A run explained: what is told of an event is what the step did.
+
+module _ (c : Clock) (kind byte count : ℕ) where
+  -- the row of its deed says of which kind the event is, what was before it, what it answers and what it leaves
+  pub deed-done :
+      stepOf c kind byte count .refusal ≡ 0
+      → (stepOf c kind byte count ≡ toldOf 0 (eventOf c kind byte count)) × Done c kind byte count (deedOf c kind byte count) (eventOf c kind byte count)
+  deed-done = deeds.deed-done c kind byte count
+
+  -- an event is told as refused exactly if it is refused, and then the state is as it was
+  pub deed-refused : (stepOf c kind byte count .refusal ≡ 0 → ⊥) → (deedOf c kind byte count ≡ deed.Refused) × (stepOf c kind byte count .state ≡ c)
+  deed-refused = deeds.deed-refused c kind byte count
+
+  pub taken-deed : {e : Answered} → Done c kind byte count deed.Refused e → ⊥
+  taken-deed = deeds.taken-deed
+
+  -- no event has two deeds
+  pub one-deed : {d e : Deed} {v w : Answered} → Done c kind byte count d v → Done c kind byte count e w → (d ≡ e) × (v ≡ w)
+  one-deed = rows-of-deeds.one-deed
+
+-- the moments of a pulse are those that the rules of its stages say, and an event's pulses one by one come to its state
+module _ (c : Clock) (w : wellFormedOf c ≡ true) where
+  pub moment-told : momentOf c (pulseOf c) ≡ pulseMoment c
+  moment-told = moments.moment-told c (parts c w)
+
+  pub one-by-one : (n : ℕ) → times (λ (d : Clock). stepOf d 5 0 1 .state) n c ≡ pulsesOf c n
+  one-by-one n = moments.one-by-one n c (parts c w)
 
 -- The marked cases 1 to 9.
 pub marked-cases : Marked
