@@ -1,3 +1,4 @@
 pub mod AbiLaws
+pub mod ByteLaws
 pub mod BoundaryLaws
 pub mod Settled

@@ -62,11 +62,11 @@ unfoldable pub saidBy : Clock → List Event → List Said
 saidBy c [] = []
 saidBy c (e ∷ es) = saidOf (toldBy c e) ∷ saidBy (toldBy c e .state) es
 
--- what the reads among events answer, by the numbers that are told
-unfoldable pub readsIn : List Event → List ℕ → List (List ℕ)
-readsIn [] ns = []
+-- of what is said to events, the answers to the reads
+unfoldable pub readsIn : List Event → List Said → List (List ℕ)
+readsIn [] all = []
 readsIn (e ∷ es) [] = []
-readsIn (e ∷ es) (n ∷ ns) = cond (readBy e) (textIn n ∷ readsIn es ns) (readsIn es ns)
+readsIn (e ∷ es) (x ∷ xs) = cond (readBy e) (x .answer ∷ readsIn es xs) (readsIn es xs)
 
 -- what the type of an event's byte says and a number does not
 pub data EventBytes : List Event → Type 0 where
