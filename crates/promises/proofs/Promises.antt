@@ -1,11 +1,11 @@
 -- Everything that is promised of the clock, in one place: each promise is stated here, and its proof is the law that it cites. Assumes nothing.
-use mathlib.Core.Path.{_≡_, subst}
+use mathlib.Core.Path.{_≡_, sym, ap, subst}
 use mathlib.Core.Logic.{_⊎_, _↔_}
 use mathlib.Core.Bool.{true, false, _&&_, not}
-use mathlib.Core.List.{List, [], _∷_, _++_}
+use mathlib.Core.List.{List, [], _∷_, _++_, map}
 use mathlib.Core.Option.{some}
 use Prim.Native.Nat.{ℕ, _+_, _*_, _<_}
-use lib.ListN.{length, drop}
+use lib.ListN.{length, getD, drop}
 use Rattle.fields.specs.Hours.{modeOf, hourNumberOf}
 use Rattle.calendar.specs.declared.time.Time.{Time}
 use Rattle.calendar.specs.Numbers.{numberOf}
@@ -16,6 +16,8 @@ use Rattle.bus.specs.declared.phase.Mode.the-variants.{Writing, Reading}
 use Rattle.bus.specs.declared.phase.Transfer.{Transfer}
 use Rattle.bus.specs.declared.phase.Phase.the-variants.{Open}
 use Rattle.events.specs.declared.event.Event.{Event}
+use Rattle.events.specs.declared.answer.Answer.the-variants.{Byte}
+use Rattle.events.specs.Answer.{textOf}
 use Rattle.events.specs.Refusal.{faultIn}
 use Rattle.sd2068.specs.declared.clock.Clock.{Clock}
 use Rattle.sd2068.specs.Power.{zeroStart, powerOnOf}
@@ -49,10 +51,18 @@ use Rattle.facts.specs.Moments.{momentOf, pulseMoment}
 use Rattle.facts.proofs.DeedLaws as deeds
 use Rattle.facts.proofs.RowLaws as rows-of-deeds
 use Rattle.facts.proofs.MomentLaws as moments
+use Rattle.state_bytes.specs.Decoded.{clockOf}
+use Rattle.state_bytes.specs.Encoded.{bytesOf}
+use Rattle.state_bytes.specs.Shapes.{Arrays}
+use Rattle.sd2068_abi.specs.Abi as abi
+use Rattle.sd2068_abi.specs.Abi.{lent, acceptedOf, powerOf, afterIn, toldIn, lentRun}
+use Rattle.sd2068_abi.specs.Said.{refusalIn, runRefusalIn, runIndexIn, Said, saidIn, saidOf, saidBy, EventBytes}
+use Rattle.sd2068_abi.proofs.BoundaryLaws as board
 use Rattle.promises.specs.Fixed.{fixed}
 use Rattle.promises.specs.Registers.{bit, viewOf, Looks, State}
 use Rattle.promises.specs.Seen.{Seen, Shows, startSeen, stopSeen, byteSeen, readSeen, pulsesSeen, lossSeen, poweredView, startAt, eventSeen}
 use Rattle.promises.specs.Script.{readsIn, Scripted, fromAddress, KeepsTimeIn}
+use Rattle.promises.specs.Board.{OnBoard, KeepsTimeOn, digitsTold}
 use Rattle.promises.specs.Ledger.{digitsOf, digitsRead, SameMinute, built}
 use Rattle.promises.specs.Marked.{Marked}
 use Rattle.promises.proofs.FixedLaws as bits
@@ -61,6 +71,7 @@ use Rattle.promises.proofs.StateLaws as state
 use Rattle.promises.proofs.ViewLaws as view
 use Rattle.promises.proofs.ScriptLaws.{script-kept}
 use Rattle.promises.proofs.LedgerLaws as ledger
+use Rattle.promises.proofs.BoardLaws as on-boards
 use Rattle.promises.proofs.MarkedCases as cases
 use Rattle.promises.proofs.Witness as run
 use Rattle.promises.proofs.ScriptWitness as file
@@ -114,6 +125,82 @@ pub always-well-formed : (s : List ℕ) (es : List Event) → Listed (after step
 always-well-formed s es =
     let c = after step (powerOnOf s .state) es in
     well-listed c (whole c (steps-well (powerOnOf s .state) (power-on-well s) es))
+
+-- A board lends bytes: they are exactly those of a well-formed state, or nothing happens.
+
+module _ (c : Clock) (a : Arrays c) (w : wellFormedOf c ≡ true) where
+  pub encoded-accepted : acceptedOf (bytesOf c) ≡ true
+  encoded-accepted = board.encoded-accepted c a w
+
+  pub encoded-decoded : clockOf (bytesOf c) ≡ c
+  encoded-decoded = board.encoded-decoded c a w
+
+module _ (s : List ℕ) (each : (i : ℕ) → getD s i 0 < 256) (accepted : acceptedOf s ≡ true) where
+  pub accepted-well : wellFormedOf (clockOf s) ≡ true
+  accepted-well = board.accepted-well s each accepted
+
+  pub accepted-encoded : bytesOf (clockOf s) ≡ s
+  accepted-encoded = board.accepted-encoded s each accepted
+
+  -- a step on them is refused with n exactly if n is due of their state, and what it leaves is accepted by the next call
+  pub board-step-due : (kind byte count n : ℕ) → (refusalIn (abi.stepOf s kind byte count .told) ≡ n) ↔ StepDue (clockOf s) kind byte count n
+  board-step-due kind byte count n =
+      subst (λ (m : ℕ). (m ≡ n) ↔ StepDue (clockOf s) kind byte count n) (ap (λ (x : Said). x .refusal) (sym (board.told-says s each accepted kind byte count)))
+      (step-refusal (clockOf s) kind byte count n)
+
+  pub step-accepted : (kind byte count : ℕ) → acceptedOf (abi.stepOf s kind byte count .state) ≡ true
+  step-accepted = board.step-accepted s each accepted
+
+module _ (s : List ℕ) (kind byte count : ℕ) where
+  -- a step that is refused leaves every byte
+  pub refused-stays : ((i : ℕ) → getD s i 0 < 256) → (refusalIn (abi.stepOf s kind byte count .told) ≡ 0 → ⊥) → abi.stepOf s kind byte count .state ≡ s
+  refused-stays each = board.refused-stays s each kind byte count
+
+  -- the pin and a register are refused with 1 exactly if a step is, and then 1 is all that is told
+  pub pin-refused : (refusalIn (abi.pinOf s) ≡ 1) ↔ (refusalIn (abi.stepOf s kind byte count .told) ≡ 1)
+  pin-refused = board.pin-refused s kind byte count
+
+  pub register-refused : (a : ℕ) → (refusalIn (abi.registerOf s a) ≡ 1) ↔ (refusalIn (abi.stepOf s kind byte count .told) ≡ 1)
+  register-refused = board.register-refused s kind byte count
+
+  pub refused-alone :
+      refusalIn (abi.stepOf s kind byte count .told) ≡ 1
+      → (abi.stepOf s kind byte count ≡ lent 1 s) × ((abi.pinOf s ≡ 1) × ((a : ℕ) → abi.registerOf s a ≡ 1))
+  refused-alone = board.refused-alone s kind byte count
+
+-- a power-on tells 255 exactly if the lent state has another length, and then leaves it; else it is refused as the table says
+module _ (start s : List ℕ) where
+  pub power-no-place : (powerOf start s .told ≡ 255) ↔ (length s ≡ 61 → ⊥)
+  power-no-place = board.power-no-place start s
+
+  pub power-stays : (length s ≡ 61 → ⊥) → powerOf start s ≡ lent 255 s
+  power-stays = board.power-stays start s
+
+  pub board-power-due : length s ≡ 61 → (n : ℕ) → (powerOf start s .told ≡ n) ↔ PowerDue start n
+  board-power-due = board.board-power-due start s
+
+  pub power-accepted : length s ≡ 61 → acceptedOf (powerOf start s .state) ≡ true
+  power-accepted = board.power-accepted start s
+
+-- and so does a run; refused, it leaves every byte of the output and hands back the state of 19 zero bytes
+module _ (file out s : List ℕ) where
+  pub run-no-place : (runRefusalIn (abi.runOf file out s .told) ≡ 255) ↔ (length s ≡ 61 → ⊥)
+  run-no-place = board.run-no-place file out s
+
+  pub run-stays : (length s ≡ 61 → ⊥) → abi.runOf file out s ≡ lentRun 255 out s
+  run-stays = board.run-stays file out s
+
+  pub board-run-due :
+      length s ≡ 61 → (n i : ℕ) → let told = abi.runOf file out s .told in ((runRefusalIn told ≡ n) × (runIndexIn told ≡ i)) ↔ Due file (length out) n i
+  board-run-due = board.board-run-due file out s
+
+  pub run-refused :
+      length s ≡ 61 → let told = abi.runOf file out s .told in
+      (runRefusalIn told ≡ 0 → ⊥) → abi.runOf file out s ≡ lentRun (runRefusalIn told + 65536 * runIndexIn told) out (bytesOf zeroStart)
+  run-refused = board.run-refused file out s
+
+  pub run-accepted : length s ≡ 61 → acceptedOf (abi.runOf file out s .state) ≡ true
+  run-accepted = board.run-accepted file out s
 
 -- Promise 2: what is not refused does what the rules say, with nothing left free.
 
@@ -176,6 +263,33 @@ module _ (file out : List ℕ) (accepted : runOf file out .refusal ≡ 0) where
       }
   file-run = script.run-whole file out accepted
 
+-- a board's calls say what the chip's steps say, one by one and in a row, and leave the bytes of the states that these leave
+module _ (s : List ℕ) (each : (i : ℕ) → getD s i 0 < 256) (accepted : acceptedOf s ≡ true) where
+  pub told-says : (kind byte count : ℕ) → saidIn (abi.stepOf s kind byte count .told) ≡ saidOf (stepOf (clockOf s) kind byte count)
+  told-says = board.told-says s each accepted
+
+  pub calls-tell : {es : List Event} → EventBytes es → map saidIn (toldIn s es) ≡ saidBy (clockOf s) es
+  calls-tell bytes = board.calls-tell s each accepted bytes
+
+  -- the pin and a register are the chip's
+  pub pin-shown : saidIn (abi.pinOf s) ≡ record { refusal = 0; answer = 45 ∷ 45 ∷ []; pin = pinOf (clockOf s) }
+  pin-shown = board.pin-shown s accepted
+
+  pub register-shown : (a : ℕ) → saidIn (abi.registerOf s a) ≡ record { refusal = 0; answer = textOf (Byte (registerOf (clockOf s) a)); pin = pinOf (clockOf s) }
+  register-shown = board.register-shown s accepted each
+
+pub board-steps : (c : Clock) → Arrays c → wellFormedOf c ≡ true → (es : List Event) → afterIn (bytesOf c) es ≡ bytesOf (after step c es)
+board-steps = board.board-steps
+
+-- its power-on and its run are the chip's and the script's
+pub board-power : (start s : List ℕ) → length s ≡ 61 → powerOf start s ≡ lent (powerOnOf start .refusal) (bytesOf (powerOnOf start .state))
+board-power = board.board-power
+
+pub board-run :
+    (file out s : List ℕ) → length s ≡ 61 → let r = runOf file out in
+    abi.runOf file out s ≡ lentRun (r .refusal + 65536 * r .index + 4294967296 * r .count) (r .output) (bytesOf (r .state))
+board-run = board.board-run
+
 -- Promise 3: a time that was set reads back as many seconds on as the pulses since make.
 
 -- the lock that a setting finds open is open by the bits of 0Fh and 10h
@@ -206,6 +320,10 @@ module _ (t : Time) (k : ℕ) (l : Legal t k) where
   -- for the output of a script
   pub time-kept-in-scripts : (file out : List ℕ) → runOf file out .refusal ≡ 0 → (s : Scripted file t) → KeepsTimeIn k s (runOf file out .output)
   time-kept-in-scripts file out accepted s = script-kept file out accepted t k l s
+
+  -- for the numbers that a board's calls tell
+  pub time-kept-on-boards : (b : OnBoard t) → KeepsTimeOn b k
+  time-kept-on-boards b = on-boards.board-kept t k l b
 
   -- two runs under one trim, with as many pulses, read the same bytes, whatever else was said on the bus
   pub other-traffic :
@@ -257,6 +375,15 @@ pub hours-apart :
     (t u : Time) (k l : ℕ) → Legal t k → Legal u l → modeOf (t .hours) ≡ modeOf (u .hours)
     → (hourNumberOf (t .hours) ≡ hourNumberOf (u .hours) → ⊥) → digitsOf t ≡ digitsOf u → ⊥
 hours-apart t u k l a b = ledger.apart t u k l (a .number) (b .number)
+
+-- a board's id by the bytes that its calls tell is that of the time that it reads, so two boards in one hour mode with one id were read in the same minute of a year
+pub board-digits : (t : Time) (k : ℕ) (b : OnBoard t) (r : KeepsTimeOn b k) → digitsTold b ≡ digitsOf (r .time)
+board-digits = on-boards.board-digits
+
+pub board-id :
+    {t u : Time} {k l : ℕ} (a : OnBoard t) (b : OnBoard u) → modeOf (t .hours) ≡ modeOf (u .hours)
+    → (r : KeepsTimeOn a k) (s : KeepsTimeOn b l) → digitsTold a ≡ digitsTold b → SameMinute (r .time) (s .time)
+board-id = on-boards.board-id
 
 -- the answers of a reading of a legal time show its digits
 pub read-digits : (t : Time) (k : ℕ) → numberOf t ≡ some k → digitsRead (shownBy t) ≡ digitsOf t

@@ -163,7 +163,7 @@ calls-by c a w s (EventBytes.more {e = e} {es = es} h hs) =
     let others = ap (λ (l : List ℕ). map saidIn (toldIn l es)) (next-bytes e c a w) ∙ rest in
     λ i. first-said e c a w s i ∷ others i
 
-reads-said : (c : Clock) (es : List Event) → readsIn es (saidBy c es) ≡ readsOf step c es
+pub reads-said : (c : Clock) (es : List Event) → readsIn es (saidBy c es) ≡ readsOf step c es
 unfolding saidBy readsIn readsOf
 reads-said c [] = refl
 reads-said c (e ∷ es) =
