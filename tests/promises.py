@@ -1,7 +1,7 @@
 """docs/PROMISES.md names only theorems and wrong programs that there are, and leaves no promise out.
 
-A theorem is named as `name`, and the file that holds it in brackets behind
-the names: (`crates/x/proofs/F.antt`). A wrong program is named by its file.
+A line that begins with "- Theorem" names theorems, each as `name`, and all of
+them stand in one file. A wrong program is named by its file.
 """
 
 import re
@@ -12,23 +12,30 @@ from names import theorems
 
 PAGE = Path("docs/PROMISES.md")
 FILE = Path("crates/promises/proofs/Promises.antt")
-THEOREMS = re.compile(r"(?:`[a-z][a-z0-9-]*`[^`()]*)+\(`(crates/[a-z0-9_]+/proofs/\w+\.antt)`\)")
+THEOREMS = re.compile(r"^- Theorems?: .*$", re.MULTILINE)
 EDITS = re.compile(r"`(crates/[a-z0-9_]+/(?:must-fail|wrong)/\w+\.edit)`")
 
 
 def named(text):
-    """Each theorem named in a text, with its file."""
-    for found in THEOREMS.finditer(text):
-        for name in re.findall(r"`([a-z][a-z0-9-]*)`", found.group(0)):
-            yield name, Path(found.group(1))
+    """The theorems named in a text."""
+    return {name for line in THEOREMS.findall(text) for name in re.findall(r"`([a-z][a-z0-9-]*)`", line)}
+
+
+def by_law(edit):
+    """Whether an edit changes a definition, and a law refuses it rather than a function's own proof."""
+    text = Path(edit).read_text(encoding="utf-8")
+    return "\nfile: specs/" in text and not re.search(r"^# Refused in: .*/Proof\.antt,", text, re.MULTILINE)
+
+
+def wrong(promise):
+    """The wrong programs of a promise that a law refuses."""
+    return {edit for edit in EDITS.findall(promise) if Path(edit).is_file() and by_law(edit)}
 
 
 def faults(page):
-    everything = set(named(page))
-    for name, file in sorted(everything, key=str):
-        if name not in theorems(file):
-            yield "%s has no theorem %s" % (file, name)
-    for name in sorted(theorems(FILE) - {name for name, file in everything if file == FILE}):
+    for name in sorted(named(page) - theorems(FILE)):
+        yield "%s has no theorem %s" % (FILE, name)
+    for name in sorted(theorems(FILE) - named(page)):
         yield "%s is promised in %s and not on the page" % (name, FILE)
     for edit in sorted(set(EDITS.findall(page))):
         if not Path(edit).is_file():
@@ -38,9 +45,9 @@ def faults(page):
             yield "%s is not there" % path
     for promise in re.split(r"^#+ ", page, flags=re.MULTILINE)[1:]:
         title = promise.splitlines()[0]
-        if "- Theorem" in promise and len(set(EDITS.findall(promise))) < 2:
-            yield "%s: fewer than two wrong programs" % title
-        if "- Wrong" in promise and not list(named(promise)):
+        if named(promise) and len(wrong(promise)) < 2:
+            yield "%s: fewer than two wrong programs that a law refuses" % title
+        if "- Wrong" in promise and not named(promise):
             yield "%s: no theorem" % title
 
 
@@ -49,8 +56,8 @@ def main():
     found = list(faults(page))
     for fault in found:
         print("%s: %s" % (PAGE, fault))
-    print("%d theorems are named on the page" % len(set(named(page))))
-    return 1 if found or not set(named(page)) else 0
+    print("%d theorems are named on the page" % len(named(page)))
+    return 1 if found or not named(page) else 0
 
 
 if __name__ == "__main__":
