@@ -29,6 +29,13 @@ impl Printed {
         }
     }
 
+    /// What the one of this name prints.
+    pub fn among<T: Into<Item>>(items: Vec<T>, name: &str) -> Printed {
+        let mut items = items.into_iter().map(T::into);
+        let found = items.find(|item: &Item| item.name() == name);
+        Printed::of(found.unwrap_or_else(|| panic!("no script {name}")))
+    }
+
     /// All lines of the events, with commas between.
     pub fn text(&self) -> String {
         self.lines.join(", ")

@@ -7,8 +7,7 @@ use crate::script::Item;
 use reference::{Chip, Phase, Stage};
 
 fn printed(name: &str) -> Printed {
-    let found = items().into_iter().find(|item| item.name() == name);
-    Printed::of(found.unwrap_or_else(|| panic!("no script {name}")))
+    Printed::among(items(), name)
 }
 
 /// The state that a script starts from.

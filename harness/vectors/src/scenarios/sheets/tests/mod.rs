@@ -26,8 +26,7 @@ const INTDF: u8 = 0x10;
 
 /// What the stored script of this name prints.
 fn printed(name: &str) -> Printed {
-    let found = items().into_iter().find(|item| item.name() == name);
-    Printed::of(found.unwrap_or_else(|| panic!("no script {name}")))
+    Printed::among(items(), name)
 }
 
 /// The pin after each event of pulses.
