@@ -66,7 +66,7 @@ impl Chip {
         self.close(Reading::TimeOutKeepsPointer);
     }
 
-    fn stage(&self) -> Option<Stage> {
+    pub(crate) fn stage(&self) -> Option<Stage> {
         match self.phase {
             Phase::Closed => None,
             Phase::Open { stage, .. } => Some(stage),
@@ -198,14 +198,17 @@ impl Chip {
     }
 
     fn data_byte(&mut self, byte: u8) -> Answer {
+        if byte == ADDRESS_READ && self.reads(Reading::ReadAddressAmidData) {
+            return self.address_byte(byte);
+        }
         let at = self.place();
         self.write_register(at, byte);
         let kept_out = !matches!(at, CTR1 | CTR2) && !self.lock_open();
         if !(kept_out && self.reads(Reading::LockedByteKeepsPointer)) {
             self.step_pointer();
         }
-        if self.pointer == 0 && self.reads(Reading::WriteWrapLatches) {
-            self.latch_time();
+        if self.pointer == 0 {
+            self.stray_after_write_wrap();
         }
         if kept_out && self.reads(Reading::LockedByteRefused) {
             return Answer::Nak;
@@ -219,7 +222,7 @@ impl Chip {
         usize::from(self.pointer) % 32
     }
 
-    fn step_pointer(&mut self) {
+    pub(crate) fn step_pointer(&mut self) {
         self.pointer = self.pointer.wrapping_add(1) % 32;
         if let Phase::Open { age, .. } = &mut self.phase {
             if self.manner.reading == Reading::ByteRestartsAge {

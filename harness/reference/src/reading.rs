@@ -330,6 +330,12 @@ readings! {
     WrapKeepsLatch,
     /// A wrap to 00h while writing latches the time, too.
     WriteWrapLatches,
+    /// After 1Fh a write goes on at 07h.
+    WriteWrapsToAlarm,
+    /// A write to 1Fh leaves the pointer there.
+    WriteStaysAtEnd,
+    /// A data byte 65h turns to reading, as the address does.
+    ReadAddressAmidData,
     /// After a wrap the time is latched when 00h is read.
     WrapLatchesLate,
     /// A read with NAK does not step the pointer.
@@ -342,6 +348,8 @@ readings! {
     StrayNakDeafens,
     /// A read in any phase marks 0Fh as read.
     StrayReadMarks,
+    /// A read while writing steps the pointer.
+    StrayReadSteps,
 
     // States handed in
 

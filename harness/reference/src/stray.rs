@@ -136,6 +136,16 @@ impl Chip {
         }
     }
 
+    /// After a data byte that has taken the pointer to 00h.
+    pub(crate) fn stray_after_write_wrap(&mut self) {
+        match self.manner.reading {
+            Reading::WriteWrapLatches => self.latch_time(),
+            Reading::WriteWrapsToAlarm => self.pointer = 0x07,
+            Reading::WriteStaysAtEnd => self.pointer = 0x1F,
+            _ => {}
+        }
+    }
+
     /// After a loss of power; `before` is the chip as it was.
     pub(crate) fn stray_after_power_loss(&mut self, before: &Chip) {
         match self.manner.reading {
@@ -223,6 +233,7 @@ impl Chip {
         match self.manner.reading {
             Reading::StrayNakDeafens if last => self.go_to(Stage::Deaf),
             Reading::StrayReadMarks if usize::from(self.pointer) == CTR1 => self.mark_ctr1(),
+            Reading::StrayReadSteps if self.stage() == Some(Stage::Writing) => self.step_pointer(),
             _ => {}
         }
     }
