@@ -6,6 +6,7 @@ mod countdown;
 mod example;
 pub mod explained;
 mod frequency;
+mod kept;
 mod lock;
 mod power;
 #[cfg(test)]
@@ -66,6 +67,7 @@ pub fn stored_scripts() -> Vec<Item> {
         countdown::scripts(),
         frequency::scripts(),
         bus::scripts(),
+        kept::scripts(),
         power::scripts(),
         refused::scripts(),
     ];
