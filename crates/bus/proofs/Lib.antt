@@ -1,3 +1,4 @@
 pub mod AgeLaws
 pub mod WellLaws
+pub mod PointerLaws
 pub mod Settled

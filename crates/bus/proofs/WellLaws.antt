@@ -13,7 +13,7 @@ use Rattle.bus.specs.declared.phase.Phase.the-variants.{Closed, Open}
 use Rattle.bus.specs.declared.phase.Bus.{Bus}
 use Rattle.bus.specs.declared.bytes.Effect.the-variants.{None}
 use Rattle.bus.specs.declared.bytes.Heard.{Heard}
-use Rattle.bus.specs.Phase.{startedOf, closedBus, olderOf, ageIn, wellOf}
+use Rattle.bus.specs.Phase.{nextOf, startedOf, closedBus, olderOf, ageIn, wellOf}
 use Rattle.bus.specs.Bytes.{deafOf, addressedOf, heardIn, heardOf}
 use Rattle.bus.specs.Reads.{readIn, readOf}
 use Rattle.fields.proofs.FieldLaws.{and-left, and-right}
@@ -36,9 +36,9 @@ pub whole : {b : Bus} → Well b → wellOf b ≡ true
 whole (shut {p} h) = le-leb p 31 h
 whole (opened {p} {m} {t} h a) = simp (le-leb p 31 h, le-leb (t .age) 16383 a)
 
-next-small : (p : ℕ) → (b : Bool) → ltb p 0x1F ≡ b → cond b (p + 1) 0 ≤ 31
-next-small p true e = let h = ltb-true p 0x1F e in omega arith
-next-small p false e = omega arith
+next-small : (p : ℕ) → (b : Bool) → ltb p 0x1F ≡ b → nextOf p ≤ 31
+next-small p true e = let h = ltb-true p 0x1F e in rw e (omega arith)
+next-small p false e = rw e (omega arith)
 
 pub closed-well : Well closedBus
 closed-well = shut {p = 0} (omega arith)

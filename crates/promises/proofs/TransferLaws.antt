@@ -1,20 +1,22 @@
 -- START, STOP, a master's byte and a read move what is said of them: one look at the phase, and the tests on byte and pointer. Assumes nothing.
 use mathlib.Core.Path.{_≡_, refl, sym, ap, _∙_}
 use mathlib.Core.Bool.{Bool, true, false, cond, _&&_, not, _||_}
-use Prim.Native.Nat.{ℕ, _+_, _%_, _<_}
+use Prim.Native.Nat.{ℕ, _<_}
+use native.Mathlib.Decide.{ℕ-discrete}
 use native.Mathlib.Omega.{arith}
 use lib.Dec.{eqb, ltb}
 use lib.ListN.{length}
-use borrow.Author.Tests.{eqb-true, ltb-true, ltb-false, eq-eqb, ne-eqb}
+use borrow.Author.Tests.{eqb-true, eq-eqb, ne-eqb}
 use Rattle.registers.specs.Seven.{byteAtOf, bytesOf}
 use Rattle.control.specs.Lock.{ctr1Of}
 use Rattle.bus.specs.declared.phase.Phase.{Phase}
 use Rattle.bus.specs.declared.phase.Phase.the-variants.{Closed, Open}
 use Rattle.bus.specs.declared.phase.Mode.the-variants.{Address, Pointer, Writing, Reading, Deaf}
 use Rattle.bus.specs.declared.phase.Transfer.{Transfer}
-use Rattle.bus.specs.Phase.{startedIn, markedIn}
+use Rattle.bus.specs.Phase.{nextOf, startedIn, markedIn}
 use Rattle.bus.specs.Bytes.{heardOf}
 use Rattle.bus.specs.Reads as reads
+use Rattle.bus.proofs.PointerLaws.{next-wraps}
 use Rattle.events.specs.declared.answer.Answer.the-variants.{Ack, Byte}
 use Rattle.events.specs.Answer.{textOf}
 use Rattle.sd2068.specs.declared.clock.Clock.{Clock}
@@ -74,15 +76,13 @@ module _ (c : Clock) where
   stop-view =
       λ i. record { register = λ (a : ℕ). stop-at a i; inner = viewOf c .inner; latch = c .latched; pointer = 0x00; phase = Closed }
 
--- the pointer steps round the 32 registers
-next-by : (p : ℕ) → p < 32 → (low : Bool) → ltb p 0x1F ≡ low → cond low (p + 1) 0x00 ≡ (p + 1) % 32
-next-by p h true e = omega (arith, ltb-true p 0x1F e)
-next-by p h false e = omega (arith, ltb-false p 0x1F e)
-
--- and comes to 00h after 1Fh alone
-first-by : (p : ℕ) → p < 32 → (low : Bool) → ltb p 0x1F ≡ low → eqb (cond low (p + 1) 0x00) 0x00 ≡ eqb p 0x1F
-first-by p h true e = ne-eqb (p + 1) 0x00 (λ x. omega arith) ∙ sym (ne-eqb p 0x1F (λ x. omega (arith, ltb-true p 0x1F e)))
-first-by p h false e = sym (eq-eqb p 0x1F (omega (arith, ltb-false p 0x1F e)))
+-- the pointer comes to 00h after 1Fh alone
+first : (p : ℕ) → p < 32 → eqb (nextOf p) 0x00 ≡ eqb p 0x1F
+first p h =
+    elim (ℕ-discrete p 0x1F) [
+      | yes e ↦ eq-eqb (nextOf p) 0x00 (next-wraps p h ∙ omega arith) ∙ sym (eq-eqb p 0x1F e)
+      | no n ↦ ne-eqb (nextOf p) 0x00 (λ x. n (omega (arith, sym (next-wraps p h) ∙ x))) ∙ sym (ne-eqb p 0x1F n)
+    ]
 
 -- what an event of the state answers and leaves
 abbrev pub seenOf : Answered → Seen
@@ -107,8 +107,8 @@ module _ (c : Clock) (p : ℕ) (h : p < 32) where
             record {
               register = registerOf c;
               inner = innerOf c;
-              latch = cond (first-by p h (ltb p 0x1F) refl i) (bytesOf (c .hand .time)) (c .latched);
-              pointer = next-by p h (ltb p 0x1F) refl i;
+              latch = cond (first p h i) (bytesOf (c .hand .time)) (c .latched);
+              pointer = next-wraps p h i;
               phase = Open (cond more Reading Deaf) (record { age = t .age; marked = eqb p 0x0F || t .marked });
             };
       }
@@ -142,7 +142,7 @@ module _ (c : Clock) (p : ℕ) (h : p < 32) where
                   register = λ (a : ℕ). write-at (at (Open Writing t)) p b full h s a i;
                   inner = write-inner (at (Open Writing t)) p b i;
                   latch = c .latched;
-                  pointer = next-by p h (ltb p 0x1F) refl i;
+                  pointer = next-wraps p h i;
                   phase = Open Writing t;
                 };
           }
