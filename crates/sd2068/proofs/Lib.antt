@@ -1,3 +1,4 @@
+pub mod RegisterLaws
 pub mod GroupLaws
 pub mod DriftLaws
 pub mod WellLaws
