@@ -1,2 +1,4 @@
+pub mod BitLaws
+pub mod LockLaws
 pub mod WellLaws
 pub mod Settled

@@ -5,7 +5,7 @@ use Prim.Native.Nat.{ℕ, _<_}
 use lib.Dec.{eqb, eqb→eq, lit<}
 use Rattle.fields.proofs.Below.{agree}
 use Rattle.fields.proofs.Bits.{each-bit}
-use Rattle.sd2068.proofs.ListedLaws.{ctr1, ctr2}
+use Rattle.control.proofs.BitLaws.{ctr1, ctr2}
 use Rattle.promises.specs.Registers.{bit, put}
 
 module _ (a b c d e : Bool) where

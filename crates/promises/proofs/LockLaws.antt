@@ -1,18 +1,22 @@
 -- A written byte gives the lock bits that its rules say, so it is stored by the registers exactly if by the state. Assumes nothing.
 use mathlib.Core.Path.{_≡_, refl, sym, ap, _∙_}
 use mathlib.Core.Bool.{Bool, true, false, cond, _&&_, not, and-false}
+use mathlib.Core.Logic.{_↔_}
 use Prim.Native.Nat.{ℕ}
 use lib.Dec.{eqb}
 use Rattle.control.specs.Lock.{openOf, writtenOf, ctr1Of, ctr2Of}
+use Rattle.control.proofs.BitLaws.{ctr1}
+use Rattle.control.proofs.LockLaws.{open-shown}
 use Rattle.sd2068.specs.declared.clock.Clock.{Clock}
 use Rattle.sd2068.specs.Clock.{withLock}
 use Rattle.sd2068.specs.Reading.{controlAtOf, registerOf}
 use Rattle.sd2068.specs.Writing.{storesOf}
+use Rattle.sd2068.specs.Kept.{Unlocked}
+use Rattle.sd2068.proofs.TrafficLaws.{open-unlocked}
 use Rattle.promises.specs.Registers.{bit, put, lockOpen}
 use Rattle.promises.specs.Written.{lockedAt, storesAt}
-use Rattle.sd2068.proofs.ListedLaws.{ctr1}
 use Rattle.promises.proofs.BitLaws.{put-lock, put-wrtc1}
-use Rattle.promises.proofs.RegisterLaws.{aside, aside-two, wrtc1, wrtc2, wrtc3}
+use Rattle.promises.proofs.RegisterLaws.{aside, aside-two, wrtc1}
 
 -- 0Fh with the lock bits that a byte there gives, and with both cleared by 10h
 module _ (two three intaf intdf rtcf : Bool) where
@@ -72,12 +76,17 @@ module _ (c : Clock) (b : ℕ) where
   pub locked-all : (p : ℕ) → registerOf (lockedBy p) ≡ lockedAt (registerOf c) p b
   locked-all p = λ i. λ (a : ℕ). locked p a i
 
--- a byte is stored by the state's lock exactly if it is by the registers
-open-law : (c : Clock) → lockOpen (registerOf c) ≡ openOf (c .lock)
-open-law c = simp (wrtc1 c, wrtc2 c, wrtc3 c)
+-- the state's lock is open exactly if its registers show it
+open-law : (c : Clock) → openOf (c .lock) ≡ lockOpen (registerOf c)
+unfolding registerOf controlAtOf
+open-law c = open-shown (c .lock) (c .alarm .flag) (c .countdown .flag) (c .rtcf) (c .control)
 
+pub unlocked-bits : (c : Clock) → Unlocked c ↔ (lockOpen (registerOf c) ≡ true)
+unlocked-bits c = (λ u. sym (open-law c) ∙ simp (u .wrtc1, u .wrtc2, u .wrtc3), λ e. open-unlocked c (open-law c ∙ e))
+
+-- so a byte is stored by the one exactly if by the others
 pub stores-law : (c : Clock) (p b : ℕ) → storesOf c p b ≡ storesAt (registerOf c) p b
 unfolding storesAt
 stores-law c p b =
-    ap (λ (o : Bool). o && openOf (writtenOf (c .lock) p b)) (sym (open-law c))
-    ∙ ap (λ (o : Bool). lockOpen (registerOf c) && o) (sym (open-law (lockedBy c b p)) ∙ ap lockOpen (locked-all c b p))
+    ap (λ (o : Bool). o && openOf (writtenOf (c .lock) p b)) (open-law c)
+    ∙ ap (λ (o : Bool). lockOpen (registerOf c) && o) (open-law (lockedBy c b p) ∙ ap lockOpen (locked-all c b p))

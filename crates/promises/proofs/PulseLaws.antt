@@ -30,10 +30,10 @@ use Rattle.sd2068.specs.Controls.{tdsOf}
 use Rattle.sd2068.specs.Pulse.{pulseOf, pulsesOf}
 use Rattle.sd2068.specs.Reading.{controlAtOf, registerOf}
 use Rattle.hand.proofs.SpanLaws.{trimmed-span}
+use Rattle.control.proofs.BitLaws.{ctr1}
 use Rattle.sd2068.proofs.GroupLaws.{by-itself}
 use Rattle.promises.specs.Registers.{bit, innerOf, viewOf, sevenFrom}
 use Rattle.promises.specs.Pulsed.{secondLength, tickLengths, agrees, matchesAt, ends, timeAfter, ticks, fires, rings, pulsedAt, pulsedInner, agedPointer, agedPhase, afterPulse}
-use Rattle.sd2068.proofs.ListedLaws.{ctr1}
 use Rattle.promises.proofs.BitLaws.{put-flags}
 use Rattle.promises.proofs.RegisterLaws.{by-rows, intaf, intdf, intde, intae, ctr3}
 

@@ -1,19 +1,20 @@
 -- A law of registers is proved row by row, and the bits of 0Fh and 10h are the state's own. Assumes nothing.
 use mathlib.Core.Path.{_≡_, refl, sym, subst}
-use mathlib.Core.Bool.{Bool, true, false, Bool·beq}
+use mathlib.Core.Bool.{Bool, true, false}
 use Prim.Native.Nat.{ℕ, _+_, _-_, _/_, _%_, _≤_, _<_}
 use native.Mathlib.Decide.{decLt}
 use native.Mathlib.Omega.{arith}
-use lib.Dec.{T, eqb, eqb→eq}
+use lib.Dec.{eqb, eqb→eq}
 use borrow.Author.Tests.{eqb-true}
 use Rattle.control.specs.Lock.{ctr1Of, ctr2Of}
+use Rattle.control.proofs.BitLaws as bits
+use Rattle.control.proofs.BitLaws.{ctr2}
 use Rattle.sd2068.specs.declared.clock.Clock.{Clock}
 use Rattle.sd2068.specs.Controls.{intsOf}
 use Rattle.sd2068.specs.Reading.{controlAtOf, registerOf}
 use Rattle.sd2068.proofs.ListedLaws.{none, _also_}
 use Rattle.promises.specs.Registers.{bit}
-use Rattle.fields.proofs.Bits.{Test, allOf, each-bit, same}
-use Rattle.sd2068.proofs.ListedLaws.{ctr1, ctr2}
+use Rattle.fields.proofs.Bits.{each-bit}
 
 -- what holds at k and at every other number holds at each
 aside-by : (P : ℕ → Type 0) (k a : ℕ) (here : Bool) → eqb a k ≡ here → P k → (eqb a k ≡ false → P a) → P a
@@ -52,72 +53,74 @@ by-rows P time fields one two three four five six rest a =
     ]
 
 module _ (c : Clock) where
-  -- a test of all bits of 0Fh, and of 10h, holds of the state's
-  of-ctr1 : (t : Test 5) → T (allOf 5 t) → T (t (c .lock .wrtc3) (c .alarm .flag) (c .countdown .flag) (c .lock .wrtc2) (c .rtcf))
-  of-ctr1 t h = each-bit 5 t h (c .lock .wrtc3) (c .alarm .flag) (c .countdown .flag) (c .lock .wrtc2) (c .rtcf)
+  -- what holds of any bits of 0Fh, and of 10h, holds of the state's
+  of-ctr1 :
+      {P : Bool → Bool → Bool → Bool → Bool → Type 0} → ((a b c d e : Bool) → P a b c d e)
+      → P (c .lock .wrtc3) (c .alarm .flag) (c .countdown .flag) (c .lock .wrtc2) (c .rtcf)
+  of-ctr1 law = law (c .lock .wrtc3) (c .alarm .flag) (c .countdown .flag) (c .lock .wrtc2) (c .rtcf)
 
   of-ctr2 :
-      (t : Test 8) → T (allOf 8 t) →
-      T (t (c .lock .wrtc1) (c .control .im) (c .control .ints1) (c .control .ints0) (c .control .fobat) (c .control .intde) (c .control .intae) (c .control .intfe))
-  of-ctr2 t h =
-      each-bit 8 t h (c .lock .wrtc1) (c .control .im) (c .control .ints1) (c .control .ints0)
+      {P : Bool → Bool → Bool → Bool → Bool → Bool → Bool → Bool → Type 0} → ((a b c d e f g h : Bool) → P a b c d e f g h)
+      → P (c .lock .wrtc1) (c .control .im) (c .control .ints1) (c .control .ints0) (c .control .fobat) (c .control .intde) (c .control .intae) (c .control .intfe)
+  of-ctr2 law =
+      law (c .lock .wrtc1) (c .control .im) (c .control .ints1) (c .control .ints0)
       (c .control .fobat) (c .control .intde) (c .control .intae) (c .control .intfe)
 
   pub wrtc3 : bit 7 (registerOf c 0x0F) ≡ c .lock .wrtc3
   unfolding registerOf controlAtOf ctr1Of
-  wrtc3 = same _ _ (of-ctr1 (λ a b c d e. Bool·beq (bit 7 (ctr1 a b c d e)) a) tt)
+  wrtc3 = of-ctr1 bits.wrtc3
 
   pub intaf : bit 5 (registerOf c 0x0F) ≡ c .alarm .flag
   unfolding registerOf controlAtOf ctr1Of
-  intaf = same _ _ (of-ctr1 (λ a b c d e. Bool·beq (bit 5 (ctr1 a b c d e)) b) tt)
+  intaf = of-ctr1 bits.intaf
 
   pub intdf : bit 4 (registerOf c 0x0F) ≡ c .countdown .flag
   unfolding registerOf controlAtOf ctr1Of
-  intdf = same _ _ (of-ctr1 (λ a b c d e. Bool·beq (bit 4 (ctr1 a b c d e)) c) tt)
+  intdf = of-ctr1 bits.intdf
 
   pub wrtc2 : bit 2 (registerOf c 0x0F) ≡ c .lock .wrtc2
   unfolding registerOf controlAtOf ctr1Of
-  wrtc2 = same _ _ (of-ctr1 (λ a b c d e. Bool·beq (bit 2 (ctr1 a b c d e)) d) tt)
+  wrtc2 = of-ctr1 bits.wrtc2
 
   pub rtcf : bit 0 (registerOf c 0x0F) ≡ c .rtcf
   unfolding registerOf controlAtOf ctr1Of
-  rtcf = same _ _ (of-ctr1 (λ a b c d e. Bool·beq (bit 0 (ctr1 a b c d e)) e) tt)
+  rtcf = of-ctr1 bits.rtcf
 
   pub wrtc1 : bit 7 (registerOf c 0x10) ≡ c .lock .wrtc1
   unfolding registerOf controlAtOf ctr2Of
-  wrtc1 = same _ _ (of-ctr2 (λ a b c d e f g h. Bool·beq (bit 7 (ctr2 a b c d e f g h)) a) tt)
+  wrtc1 = of-ctr2 bits.wrtc1
 
   pub im : bit 6 (registerOf c 0x10) ≡ c .control .im
   unfolding registerOf controlAtOf ctr2Of
-  im = same _ _ (of-ctr2 (λ a b c d e f g h. Bool·beq (bit 6 (ctr2 a b c d e f g h)) b) tt)
+  im = of-ctr2 bits.im
 
   pub ints1 : bit 5 (registerOf c 0x10) ≡ c .control .ints1
   unfolding registerOf controlAtOf ctr2Of
-  ints1 = same _ _ (of-ctr2 (λ a b c d e f g h. Bool·beq (bit 5 (ctr2 a b c d e f g h)) c) tt)
+  ints1 = of-ctr2 bits.ints1
 
   pub ints0 : bit 4 (registerOf c 0x10) ≡ c .control .ints0
   unfolding registerOf controlAtOf ctr2Of
-  ints0 = same _ _ (of-ctr2 (λ a b c d e f g h. Bool·beq (bit 4 (ctr2 a b c d e f g h)) d) tt)
+  ints0 = of-ctr2 bits.ints0
 
   pub fobat : bit 3 (registerOf c 0x10) ≡ c .control .fobat
   unfolding registerOf controlAtOf ctr2Of
-  fobat = same _ _ (of-ctr2 (λ a b c d e f g h. Bool·beq (bit 3 (ctr2 a b c d e f g h)) e) tt)
+  fobat = of-ctr2 bits.fobat
 
   pub intde : bit 2 (registerOf c 0x10) ≡ c .control .intde
   unfolding registerOf controlAtOf ctr2Of
-  intde = same _ _ (of-ctr2 (λ a b c d e f g h. Bool·beq (bit 2 (ctr2 a b c d e f g h)) f) tt)
+  intde = of-ctr2 bits.intde
 
   pub intae : bit 1 (registerOf c 0x10) ≡ c .control .intae
   unfolding registerOf controlAtOf ctr2Of
-  intae = same _ _ (of-ctr2 (λ a b c d e f g h. Bool·beq (bit 1 (ctr2 a b c d e f g h)) g) tt)
+  intae = of-ctr2 bits.intae
 
   pub intfe : bit 0 (registerOf c 0x10) ≡ c .control .intfe
   unfolding registerOf controlAtOf ctr2Of
-  intfe = same _ _ (of-ctr2 (λ a b c d e f g h. Bool·beq (bit 0 (ctr2 a b c d e f g h)) h) tt)
+  intfe = of-ctr2 bits.intfe
 
   pub ints : registerOf c 0x10 / 16 % 4 ≡ intsOf (c .control .ints1) (c .control .ints0)
   unfolding registerOf controlAtOf ctr2Of
-  ints = eqb→eq _ _ (of-ctr2 (λ a b c d e f g h. eqb (ctr2 a b c d e f g h / 16 % 4) (intsOf c d)) tt)
+  ints = eqb→eq _ _ (of-ctr2 (each-bit 8 (λ a b c d e f g h. eqb (ctr2 a b c d e f g h / 16 % 4) (intsOf c d)) tt))
 
   pub ctr3 : registerOf c 0x11 ≡ c .control .ctr3
   unfolding registerOf controlAtOf

@@ -18,10 +18,11 @@ use Rattle.countdown.specs.Countdown as countdown
 use Rattle.control.specs.declared.control.Control.{Control}
 use Rattle.control.specs.Control as control
 use Rattle.control.specs.Lock.{ctr1Of, ctr2Of}
+use Rattle.control.proofs.BitLaws.{ctr2}
 use Rattle.sd2068.specs.declared.clock.Clock.{Clock}
 use Rattle.sd2068.specs.Reading.{controlAtOf, registerOf}
 use Rattle.sd2068.specs.Writing.{ramStoredOf}
-use Rattle.sd2068.proofs.ListedLaws.{none, _also_, ctr2}
+use Rattle.sd2068.proofs.ListedLaws.{none, _also_}
 use Rattle.promises.specs.Registers.{bit}
 use Rattle.promises.specs.Written.{storedAt}
 use Rattle.promises.proofs.BitLaws.{put-intaf, put-flags, summed-same}

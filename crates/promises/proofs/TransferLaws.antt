@@ -9,6 +9,7 @@ use lib.ListN.{length}
 use borrow.Author.Tests.{eqb-true, eq-eqb, ne-eqb}
 use Rattle.registers.specs.Seven.{byteAtOf, bytesOf}
 use Rattle.control.specs.Lock.{ctr1Of}
+use Rattle.control.proofs.BitLaws.{ctr1}
 use Rattle.bus.specs.declared.phase.Phase.{Phase}
 use Rattle.bus.specs.declared.phase.Phase.the-variants.{Closed, Open}
 use Rattle.bus.specs.declared.phase.Mode.the-variants.{Address, Pointer, Writing, Reading, Deaf}
@@ -27,7 +28,6 @@ use Rattle.sd2068.specs.Clock.{withBus}
 use Rattle.sd2068.specs.Writing.{writeOf}
 use Rattle.promises.specs.Registers.{put, viewOf, innerOf}
 use Rattle.promises.specs.Seen.{startedPhase, startSeen, isMarked, stoppedAt, stopSeen, Seen, byteSeen, readSeen}
-use Rattle.sd2068.proofs.ListedLaws.{ctr1}
 use Rattle.promises.proofs.BitLaws.{put-flags}
 use Rattle.promises.proofs.RegisterLaws.{aside}
 use Rattle.promises.proofs.WriteLaws.{write-at, write-inner}

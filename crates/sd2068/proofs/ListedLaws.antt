@@ -1,6 +1,6 @@
 -- A state is well formed exactly if it is as refusal 1's row lists it. Assumes nothing.
 use mathlib.Core.Path.{_≡_, refl, sym, subst}
-use mathlib.Core.Bool.{Bool, true, false, cond, _||_, not, true≢false}
+use mathlib.Core.Bool.{Bool, true, false, _||_, not, true≢false}
 use Prim.Native.Nat.{ℕ, _+_, _≤_, _<_}
 use native.Mathlib.Omega.{arith}
 use lib.Dec.{eqb, eqb→eq}
@@ -14,6 +14,7 @@ use Rattle.registers.proofs.FixedLaws.{time-bytes}
 use Rattle.control.specs.Lock as lock
 use Rattle.control.specs.Lock.{ctr1Of}
 use Rattle.control.specs.Control as control
+use Rattle.control.proofs.BitLaws.{ctr1}
 use Rattle.bus.specs.declared.phase.Mode.{Mode}
 use Rattle.bus.specs.declared.phase.Transfer.{Transfer}
 use Rattle.bus.specs.declared.phase.Phase.{Phase}
@@ -38,15 +39,7 @@ infixl 20 _also_
 pub _also_ : {P : ℕ → Type 0} {n : ℕ} → First P n → P n → First P (n + 1)
 _also_ {P} {n} f p = record { each = below-more P n (f .each) p }
 
--- 0Fh is put together of its five bits and has no other
-abbrev pub ctr1 : Bool → Bool → Bool → Bool → Bool → ℕ
-ctr1 a b c d e = cond a 0x80 0 + cond b 0x20 0 + cond c 0x10 0 + cond d 0x04 0 + cond e 0x01 0
-
--- 10h, of its eight bits
-abbrev pub ctr2 : Bool → Bool → Bool → Bool → Bool → Bool → Bool → Bool → ℕ
-ctr2 a b c d e f g h =
-    cond a 0x80 0 + cond b 0x40 0 + cond c 0x20 0 + cond d 0x10 0 + cond e 0x08 0 + cond f 0x04 0 + cond g 0x02 0 + cond h 0x01 0
-
+-- 0Fh has no bits but its five
 pub ctr1-clear : (a b c d e : Bool) → keptCtr1 (ctr1 a b c d e) ≡ ctr1 a b c d e
 ctr1-clear a b c d e = eqb→eq _ _ (each-bit 5 (λ a b c d e. eqb (keptCtr1 (ctr1 a b c d e)) (ctr1 a b c d e)) tt a b c d e)
 

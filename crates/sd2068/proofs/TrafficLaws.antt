@@ -35,17 +35,20 @@ use Rattle.sd2068.specs.Kept.{Unlocked, PowerLoss, Stores, Spares, Spare
 use Rattle.sd2068.proofs.KindLaws.{each-kind, small-kind}
 use Rattle.sd2068.proofs.SpeechLaws.{refused-state, refused-pulses, good-taken}
 
--- a byte that is stored finds the lock open
-unlocked : (c : Clock) (a b : ℕ) → storesOf c a b ≡ true → Unlocked c
-unlocked c a b e =
+-- the lock is open by its three bits
+pub open-unlocked : (c : Clock) → openOf (c .lock) ≡ true → Unlocked c
+open-unlocked c o =
     let l = c .lock in
-    let o = and-left (openOf l) (openOf (writtenOf l a b)) e in
     let two = and-left (l .wrtc1 && l .wrtc2) (l .wrtc3) o in
     record {
       wrtc1 = and-left (l .wrtc1) (l .wrtc2) two;
       wrtc2 = and-right (l .wrtc1) (l .wrtc2) two;
       wrtc3 = and-right (l .wrtc1 && l .wrtc2) (l .wrtc3) o;
     }
+
+-- a byte that is stored finds it open
+unlocked : (c : Clock) (a b : ℕ) → storesOf c a b ≡ true → Unlocked c
+unlocked c a b e = open-unlocked c (and-left (openOf (c .lock)) (openOf (writtenOf (c .lock) a b)) e)
 
 -- a byte written at a that is neither the time's nor the trim's, or that finds the lock closed
 module _ (c : Clock) (a b : ℕ) (spared : Unlocked c → (a < 0x07) ⊎ (a ≡ 0x12) → ⊥) where

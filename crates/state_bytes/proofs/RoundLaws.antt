@@ -10,6 +10,8 @@ use lib.Seq.{ext-getD}
 use borrow.Author.Tests.{eq-eqb}
 use Rattle.fields.proofs.FieldLaws.{and-left, and-right}
 use Rattle.control.specs.Lock.{ctr1Of, ctr2Of}
+use Rattle.control.proofs.BitLaws as bits
+use Rattle.control.proofs.BitLaws.{ctr1}
 use Rattle.registers.specs.Fixed.{keptCtr1, keptControl, keptOf, clearOf}
 use Rattle.bus.specs.declared.phase.Bus.{Bus}
 use Rattle.bus.proofs.WellLaws as bus-laws
@@ -18,7 +20,7 @@ use Rattle.sd2068.specs.declared.clock.Clock.{Clock}
 use Rattle.sd2068.specs.Pin.{pinOf}
 use Rattle.sd2068.specs.WellFormed.{wellFormedOf}
 use Rattle.sd2068.proofs.WellLaws.{Well, parts}
-use Rattle.sd2068.proofs.ListedLaws.{none, _also_, ctr1, ctr1-clear}
+use Rattle.sd2068.proofs.ListedLaws.{none, _also_, ctr1-clear}
 use Rattle.state_bytes.specs.Words.{wordOf, lowOf, secondOf}
 use Rattle.state_bytes.specs.Phases.{ageIn, phaseWell}
 use Rattle.state_bytes.specs.Decoded.{ramOf, latchedOf, clockOf, plainOf, isState}
@@ -26,7 +28,7 @@ use Rattle.state_bytes.specs.Encoded.{bytesOf}
 use Rattle.state_bytes.specs.Shapes.{Arrays, Bytes}
 use Rattle.state_bytes.proofs.WordLaws.{word-back, long-back, low-word, second-word, low-long, second-long, third-long, high-long}
 use Rattle.state_bytes.proofs.PhaseLaws.{phase-back, phase-written, Again, phase-again}
-use Rattle.state_bytes.proofs.BitLaws.{wrtc3-back, intaf-back, intdf-back, wrtc2-back, rtcf-back, wrtc1-back, im-back, ints1-back, ints0-back, fobat-back, intde-back, intae-back, intfe-back, ctr1-again, ctr2-again}
+use Rattle.state_bytes.proofs.BitLaws.{ctr1-again, ctr2-again}
 
 clear-ctr1 : (a b c d e : Bool) → clearOf 0x0F (ctr1 a b c d e) ≡ true
 unfolding clearOf keptOf keptControl
@@ -69,7 +71,7 @@ module _ (c : Clock) (a : Arrays c) (well : wellFormedOf c ≡ true) where
             record {
               at = c .alarm .at;
               enable = c .alarm .enable;
-              flag = intaf-back (c .lock .wrtc3) (c .alarm .flag) (c .countdown .flag) (c .lock .wrtc2) (c .rtcf) i;
+              flag = bits.intaf (c .lock .wrtc3) (c .alarm .flag) (c .countdown .flag) (c .lock .wrtc2) (c .rtcf) i;
               pulse = word-back (c .alarm .pulse) (let h = w .alarm .pulse in omega arith) i;
             };
         countdown =
@@ -77,27 +79,27 @@ module _ (c : Clock) (a : Arrays c) (well : wellFormedOf c ≡ true) where
               count = c .countdown .count;
               reload = c .countdown .reload;
               prescaler = long-back (c .countdown .prescaler) i;
-              flag = intdf-back (c .lock .wrtc3) (c .alarm .flag) (c .countdown .flag) (c .lock .wrtc2) (c .rtcf) i;
+              flag = bits.intdf (c .lock .wrtc3) (c .alarm .flag) (c .countdown .flag) (c .lock .wrtc2) (c .rtcf) i;
               pulse = word-back (c .countdown .pulse) (let h = w .countdown .pulse in omega arith) i;
             };
         lock =
             record {
-              wrtc1 = wrtc1-back (c .lock .wrtc1) (c .control .im) (c .control .ints1) (c .control .ints0) (c .control .fobat) (c .control .intde) (c .control .intae) (c .control .intfe) i;
-              wrtc2 = wrtc2-back (c .lock .wrtc3) (c .alarm .flag) (c .countdown .flag) (c .lock .wrtc2) (c .rtcf) i;
-              wrtc3 = wrtc3-back (c .lock .wrtc3) (c .alarm .flag) (c .countdown .flag) (c .lock .wrtc2) (c .rtcf) i;
+              wrtc1 = bits.wrtc1 (c .lock .wrtc1) (c .control .im) (c .control .ints1) (c .control .ints0) (c .control .fobat) (c .control .intde) (c .control .intae) (c .control .intfe) i;
+              wrtc2 = bits.wrtc2 (c .lock .wrtc3) (c .alarm .flag) (c .countdown .flag) (c .lock .wrtc2) (c .rtcf) i;
+              wrtc3 = bits.wrtc3 (c .lock .wrtc3) (c .alarm .flag) (c .countdown .flag) (c .lock .wrtc2) (c .rtcf) i;
             };
         control =
             record {
-              im = im-back (c .lock .wrtc1) (c .control .im) (c .control .ints1) (c .control .ints0) (c .control .fobat) (c .control .intde) (c .control .intae) (c .control .intfe) i;
-              ints1 = ints1-back (c .lock .wrtc1) (c .control .im) (c .control .ints1) (c .control .ints0) (c .control .fobat) (c .control .intde) (c .control .intae) (c .control .intfe) i;
-              ints0 = ints0-back (c .lock .wrtc1) (c .control .im) (c .control .ints1) (c .control .ints0) (c .control .fobat) (c .control .intde) (c .control .intae) (c .control .intfe) i;
-              fobat = fobat-back (c .lock .wrtc1) (c .control .im) (c .control .ints1) (c .control .ints0) (c .control .fobat) (c .control .intde) (c .control .intae) (c .control .intfe) i;
-              intde = intde-back (c .lock .wrtc1) (c .control .im) (c .control .ints1) (c .control .ints0) (c .control .fobat) (c .control .intde) (c .control .intae) (c .control .intfe) i;
-              intae = intae-back (c .lock .wrtc1) (c .control .im) (c .control .ints1) (c .control .ints0) (c .control .fobat) (c .control .intde) (c .control .intae) (c .control .intfe) i;
-              intfe = intfe-back (c .lock .wrtc1) (c .control .im) (c .control .ints1) (c .control .ints0) (c .control .fobat) (c .control .intde) (c .control .intae) (c .control .intfe) i;
+              im = bits.im (c .lock .wrtc1) (c .control .im) (c .control .ints1) (c .control .ints0) (c .control .fobat) (c .control .intde) (c .control .intae) (c .control .intfe) i;
+              ints1 = bits.ints1 (c .lock .wrtc1) (c .control .im) (c .control .ints1) (c .control .ints0) (c .control .fobat) (c .control .intde) (c .control .intae) (c .control .intfe) i;
+              ints0 = bits.ints0 (c .lock .wrtc1) (c .control .im) (c .control .ints1) (c .control .ints0) (c .control .fobat) (c .control .intde) (c .control .intae) (c .control .intfe) i;
+              fobat = bits.fobat (c .lock .wrtc1) (c .control .im) (c .control .ints1) (c .control .ints0) (c .control .fobat) (c .control .intde) (c .control .intae) (c .control .intfe) i;
+              intde = bits.intde (c .lock .wrtc1) (c .control .im) (c .control .ints1) (c .control .ints0) (c .control .fobat) (c .control .intde) (c .control .intae) (c .control .intfe) i;
+              intae = bits.intae (c .lock .wrtc1) (c .control .im) (c .control .ints1) (c .control .ints0) (c .control .fobat) (c .control .intde) (c .control .intae) (c .control .intfe) i;
+              intfe = bits.intfe (c .lock .wrtc1) (c .control .im) (c .control .ints1) (c .control .ints0) (c .control .fobat) (c .control .intde) (c .control .intae) (c .control .intfe) i;
               ctr3 = c .control .ctr3;
             };
-        rtcf = rtcf-back (c .lock .wrtc3) (c .alarm .flag) (c .countdown .flag) (c .lock .wrtc2) (c .rtcf) i;
+        rtcf = bits.rtcf (c .lock .wrtc3) (c .alarm .flag) (c .countdown .flag) (c .lock .wrtc2) (c .rtcf) i;
         ram = ram-back i;
         latched = latched-back i;
         divider = long-back (c .divider) i;
