@@ -12,6 +12,7 @@ use events::Refusal;
 use hand::Hand;
 use registers::clear_time;
 ghost use mathlib.Core.Path.{_≡_};
+ghost use Prim.Native.Nat.{_≤_};
 ghost use lib.ListN.{length};
 ghost use Rattle.sd2068.specs.Power.{zeroTime, noAlarm, noCountdown, noControl, poweredOf, lostOf, startTime, startRam, zeroStart, powerOnOf};
 ghost use Rattle.sd2068.specs.Step.{started};
@@ -118,7 +119,7 @@ fn zero_start() -> Clock
 
 // The time among the start bytes. (rule 2.9)
 fn start_time(s: &[u8]) -> Time
-    requires { ⌜ length (now s) ≡ 19 ⌝ }
+    requires { ⌜ 19 ≤ length (now s) ⌝ }
     ensures { λ r. ⌜ r ≡ startTime (now (s .entry)) ⌝ }
 {
     Time {
@@ -134,7 +135,7 @@ fn start_time(s: &[u8]) -> Time
 
 // The RAM among the start bytes. (rule 2.9)
 fn start_ram(s: &[u8]) -> [u8; 12]
-    requires { ⌜ length (now s) ≡ 19 ⌝ }
+    requires { ⌜ 19 ≤ length (now s) ⌝ }
     ensures { λ r. ⌜ r ≡ startRam (now (s .entry)) ⌝ }
 {
     [
