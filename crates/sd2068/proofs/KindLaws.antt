@@ -1,10 +1,15 @@
--- An event is of kind 0 to 6 where it is not refused. Assumes nothing.
+-- An event that is refused changes nothing, and any other is of kind 0 to 6 and does what its kind does. Assumes nothing.
 use mathlib.Core.Path.{_≡_, sym, subst}
+use mathlib.Core.Bool.{false}
 use Prim.Native.Nat.{ℕ, _≤_, _<_}
 use native.Mathlib.Decide.{ℕ-discrete, decLt}
 use native.Mathlib.Omega.{arith}
-use borrow.Author.Tests.{le-ltb}
-use Rattle.events.specs.Refusal.{faultOf}
+use borrow.Author.Tests.{eq-eqb, ne-eqb, le-ltb}
+use Rattle.events.specs.declared.event.Event.{Event}
+use Rattle.events.specs.Refusal.{faultOf, faultIn}
+use Rattle.sd2068.specs.declared.clock.Clock.{Clock}
+use Rattle.sd2068.specs.Step.{eventOf}
+use Rattle.sd2068.specs.Run.{takenOf, pulsesBy, readBy}
 
 -- a number is n, or it is another one
 or-else : (P : ℕ → Type 0) (k n : ℕ) → P n → ((k ≡ n → ⊥) → P k) → P k
@@ -25,3 +30,18 @@ small-kind kind byte count good =
           let two : faultOf kind byte count ≡ 2 = simp (le-ltb kind 7 (omega arith)) in
           omega (arith, two, good)
     ]
+
+-- a refused event leaves the state, makes no pulse and is no read
+module _ (e : Event) (bad : faultIn e ≡ 0 → ⊥) where
+  pub refused-state : (c : Clock) → takenOf c e .clock ≡ c
+  refused-state c = simp (ne-eqb (faultIn e) 0 bad)
+
+  pub refused-pulses : pulsesBy e ≡ 0
+  refused-pulses = simp (ne-eqb (faultIn e) 0 bad)
+
+  pub refused-read : readBy e ≡ false
+  refused-read = simp (ne-eqb (faultIn e) 0 bad)
+
+-- an event that is not refused does what its kind does
+pub good-taken : (e : Event) → faultIn e ≡ 0 → (c : Clock) → takenOf c e ≡ eventOf c (e .kind) (e .byte) (e .count)
+good-taken e good c = simp (eq-eqb (faultIn e) 0 good)

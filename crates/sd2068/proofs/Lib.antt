@@ -5,12 +5,12 @@ pub mod WellLaws
 pub mod ListedLaws
 pub mod RowLaws
 pub mod KindLaws
+pub mod TrafficLaws
 pub mod PhaseLaws
 pub mod SpeechLaws
 pub mod UnheardLaws
 pub mod StillLaws
 pub mod SettingLaws
-pub mod TrafficLaws
 pub mod ReadBackLaws
 pub mod KeptLaws
 pub mod Settled

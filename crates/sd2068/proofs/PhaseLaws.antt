@@ -2,24 +2,19 @@
 use mathlib.Core.Path.{_≡_}
 use mathlib.Core.Bool.{Bool, cond, _||_}
 use Prim.Native.Nat.{ℕ}
-use Rattle.bus.specs.declared.phase.Mode.{Mode}
 use Rattle.bus.specs.declared.phase.Mode.the-variants.{Address, Pointer, Writing, Reading, Deaf}
 use Rattle.bus.specs.declared.phase.Transfer.{Transfer}
-use Rattle.bus.specs.declared.phase.Phase.the-variants.{Open}
-use Rattle.bus.specs.declared.phase.Bus.{Bus}
 use Rattle.bus.specs.Phase.{nextOf}
 use Rattle.bus.specs.Bytes.{heardOf}
 use Rattle.bus.specs.Reads as reads
 use Rattle.bus.specs.Reads.{marksOf}
+use Rattle.bus.proofs.UnheardLaws.{at}
 use Rattle.events.specs.declared.answer.Answer.the-variants.{Ack, Byte}
 use Rattle.sd2068.specs.declared.clock.Clock.{Clock}
 use Rattle.sd2068.specs.Clock.{withBus}
 use Rattle.sd2068.specs.Reading.{shownOf}
 use Rattle.sd2068.specs.Writing.{writeOf}
 use Rattle.sd2068.specs.Transfer.{latchedOf, byteOf, renewedOf, readOf}
-
-abbrev pub at : ℕ → Mode → Transfer → Bus
-at p m t = record { pointer = p; phase = Open m t }
 
 module _ (c : Clock) (p : ℕ) (t : Transfer) where
   pub hears-write : c .bus ≡ at p Address t → byteOf c 0x64 ≡ record { clock = withBus c (at p Pointer t); answer = Ack }

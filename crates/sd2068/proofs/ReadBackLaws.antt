@@ -13,6 +13,7 @@ use Rattle.bus.specs.declared.phase.Mode.the-variants.{Reading}
 use Rattle.bus.specs.declared.phase.Transfer.{Transfer}
 use Rattle.bus.specs.Phase.{nextOf}
 use Rattle.bus.specs.Reads.{marksOf}
+use Rattle.bus.proofs.UnheardLaws.{at}
 use Rattle.events.specs.declared.event.Event.{Event}
 use Rattle.events.specs.declared.answer.Answer.the-variants.{Ack, Byte}
 use Rattle.events.specs.Answer.{textOf}
@@ -26,7 +27,7 @@ use Rattle.sd2068.proofs.GroupLaws.{pulses-latched}
 use Rattle.sd2068.specs.Kept as kept
 use Rattle.sd2068.specs.Run.{Machine, byte, ack, nak, takenOf, event, after, pulsesIn, readBy, byteBy, readsOf}
 use Rattle.sd2068.specs.Kept.{shownBy}
-use Rattle.sd2068.proofs.PhaseLaws.{at, hears-read, sends}
+use Rattle.sd2068.proofs.PhaseLaws.{hears-read, sends}
 use Rattle.sd2068.proofs.UnheardLaws.{byte-unheard, no-read}
 use Rattle.sd2068.proofs.SpeechLaws.{Stage, Leads, Path, Path.here as here, Path.then as then, Arrives, spaced, walk}
 use Rattle.sd2068.proofs.SettingLaws.{Listening, transferOf, listening-on}

@@ -25,6 +25,7 @@ use Rattle.bus.specs.declared.phase.Phase.the-variants.{Closed, Open}
 use Rattle.bus.specs.declared.phase.Bus.{Bus}
 use Rattle.bus.specs.Phase.{startedIn, olderOf}
 use Rattle.bus.proofs.AgeLaws.{stays-open}
+use Rattle.bus.proofs.UnheardLaws.{at, sends}
 use Rattle.events.specs.declared.event.Event.{Event}
 use Rattle.sd2068.specs.declared.clock.Clock.{Clock}
 use Rattle.sd2068.specs.declared.answers.Answered.{Answered}
@@ -36,8 +37,8 @@ use Rattle.sd2068.specs.Step.{eventOf}
 use Rattle.sd2068.proofs.GroupLaws.{pulses-hand, pulses-bus, pulses-lock}
 use Rattle.sd2068.specs.Run.{Machine, start, byte, takenOf, event, after, pulsesIn, readBy}
 use Rattle.sd2068.specs.Kept.{Unlocked, keptTimeOf, Pointed, Setting, ageOf, Pointing, setBy}
-use Rattle.sd2068.proofs.PhaseLaws.{at, hears-write, hears-pointer, hears-data}
-use Rattle.sd2068.proofs.UnheardLaws.{sends, read-unheard}
+use Rattle.sd2068.proofs.PhaseLaws.{hears-write, hears-pointer, hears-data}
+use Rattle.sd2068.proofs.UnheardLaws.{read-unheard}
 use Rattle.sd2068.proofs.SpeechLaws.{Stage, Leads, Path, Path.here as here, Path.then as then, spaced, walk}
 
 -- pulses within the time that a transfer has age it, and do nothing else to the bus

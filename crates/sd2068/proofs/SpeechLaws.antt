@@ -12,22 +12,8 @@ use Rattle.sd2068.specs.declared.clock.Clock.{Clock}
 use Rattle.sd2068.specs.declared.answers.Answered.{Answered}
 use Rattle.sd2068.specs.Pulse.{pulsesOf}
 use Rattle.sd2068.specs.Step.{eventOf}
+use Rattle.sd2068.proofs.KindLaws.{refused-state, refused-pulses, refused-read, good-taken}
 use Rattle.sd2068.specs.Run.{takenOf, event, after, pulsesBy, pulsesIn, waits, spoken, readBy, readsOf}
-
--- a refused event leaves the state, makes no pulse and is no read
-module _ (e : Event) (bad : faultIn e ≡ 0 → ⊥) where
-  pub refused-state : (c : Clock) → takenOf c e .clock ≡ c
-  refused-state c = simp (ne-eqb (faultIn e) 0 bad)
-
-  pub refused-pulses : pulsesBy e ≡ 0
-  refused-pulses = simp (ne-eqb (faultIn e) 0 bad)
-
-  pub refused-read : readBy e ≡ false
-  refused-read = simp (ne-eqb (faultIn e) 0 bad)
-
--- an event that is not refused does what its kind does
-pub good-taken : (e : Event) → faultIn e ≡ 0 → (c : Clock) → takenOf c e ≡ eventOf c (e .kind) (e .byte) (e .count)
-good-taken e good c = simp (eq-eqb (faultIn e) 0 good)
 
 -- pulses make pulses and are no read
 module _ (e : Event) (good : faultIn e ≡ 0) (five : e .kind ≡ 5) where

@@ -17,6 +17,7 @@ use Rattle.bus.specs.declared.phase.Phase.{Phase}
 use Rattle.bus.specs.declared.phase.Phase.the-variants.{Closed, Open}
 use Rattle.bus.specs.declared.phase.Bus.{Bus}
 use Rattle.bus.specs.Phase.{startedIn, olderIn, olderOf}
+use Rattle.bus.proofs.UnheardLaws.{at}
 use Rattle.events.specs.declared.event.Event.{Event}
 use Rattle.events.specs.Refusal.{faultOf, faultIn}
 use Rattle.sd2068.specs.declared.clock.Clock.{Clock}
@@ -26,9 +27,8 @@ use Rattle.sd2068.specs.Transfer.{stoppedOf, readOf}
 use Rattle.sd2068.specs.Step.{eventOf}
 use Rattle.sd2068.specs.Run.{event, readBy, byteBy}
 use Rattle.sd2068.proofs.GroupLaws.{pulses-bus}
-use Rattle.sd2068.proofs.KindLaws.{each-kind, small-kind}
-use Rattle.sd2068.proofs.PhaseLaws.{at, hears-data, sends}
-use Rattle.sd2068.proofs.SpeechLaws.{refused-state, good-taken}
+use Rattle.sd2068.proofs.KindLaws.{each-kind, small-kind, refused-state, good-taken}
+use Rattle.sd2068.proofs.PhaseLaws.{hears-data, sends}
 use Rattle.sd2068.proofs.UnheardLaws.{read-unheard, byte-unheard}
 
 -- a transfer is open, and awaits its address

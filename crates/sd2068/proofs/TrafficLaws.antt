@@ -32,8 +32,7 @@ use Rattle.sd2068.specs.Step.{eventOf}
 use Rattle.sd2068.proofs.GroupLaws.{read-alone, pulses-hand}
 use Rattle.sd2068.specs.Run.{takenOf, event, after, pulsesBy, pulsesIn}
 use Rattle.sd2068.specs.Kept.{Unlocked, PowerLoss, Stores, Spares, Spares.none as none, Spares.more as more}
-use Rattle.sd2068.proofs.KindLaws.{each-kind, small-kind}
-use Rattle.sd2068.proofs.SpeechLaws.{refused-state, refused-pulses, good-taken}
+use Rattle.sd2068.proofs.KindLaws.{each-kind, small-kind, refused-state, refused-pulses, good-taken}
 
 -- the lock is open by its three bits
 pub open-unlocked : (c : Clock) → openOf (c .lock) ≡ true → Unlocked c

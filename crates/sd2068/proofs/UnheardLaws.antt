@@ -1,16 +1,16 @@
 -- Which events change nothing in an open transfer: refused ones, reads where the chip does not read, and a master's bytes where it does. Assumes nothing.
 use mathlib.Core.Path.{_≡_, refl, sym, ap, _∙_}
-use mathlib.Core.Bool.{Bool, true, false, _||_, true≢false}
+use mathlib.Core.Bool.{Bool, true, false, _||_}
 use Prim.Native.Nat.{ℕ}
 use native.Mathlib.Omega.{arith}
 use lib.Dec.{eqb}
 use borrow.Author.Tests.{eqb-true, ne-eqb}
 use Rattle.fields.proofs.FieldLaws.{and-left, and-right}
 use Rattle.bus.specs.declared.phase.Mode.{Mode}
-use Rattle.bus.specs.declared.phase.Mode.the-variants.{Address, Pointer, Writing, Reading, Deaf}
+use Rattle.bus.specs.declared.phase.Mode.the-variants.{Reading}
 use Rattle.bus.specs.declared.phase.Transfer.{Transfer}
-use Rattle.bus.specs.Bytes.{heardOf}
-use Rattle.bus.specs.Reads as reads
+use Rattle.bus.proofs.UnheardLaws as bus
+use Rattle.bus.proofs.UnheardLaws.{at, sends}
 use Rattle.events.specs.declared.event.Event.{Event}
 use Rattle.events.specs.declared.answer.Answer.the-variants.{Nak}
 use Rattle.events.specs.Refusal.{faultIn}
@@ -20,31 +20,18 @@ use Rattle.sd2068.specs.Clock.{withBus}
 use Rattle.sd2068.specs.Transfer.{byteOf, readOf}
 use Rattle.sd2068.specs.Step.{eventOf}
 use Rattle.sd2068.specs.Run.{takenOf, readBy, byteBy}
-use Rattle.sd2068.proofs.PhaseLaws.{at}
-use Rattle.sd2068.proofs.SpeechLaws.{good-taken}
-
--- a transfer in this mode sends bytes
-abbrev pub sends : Mode → Bool
-sends Address = false
-sends Pointer = false
-sends Writing = false
-sends Reading = true
-sends Deaf = false
+use Rattle.sd2068.proofs.KindLaws.{good-taken}
 
 module _ (c : Clock) (p : ℕ) (t : Transfer) where
   -- where the chip does not send, a read leaves the state
   unread : (m : Mode) → sends m ≡ false → (ack : Bool) → c .bus ≡ at p m t → readOf c ack .clock ≡ c
-  unfolding readOf reads.readOf
-  unread Address quiet ack e = simp e
-  unread Pointer quiet ack e = simp e
-  unread Writing quiet ack e = simp e
-  unread Reading quiet ack e = absurd (true≢false quiet)
-  unread Deaf quiet ack e = simp e
+  unfolding readOf
+  unread m quiet ack e = simp (e, bus.unread p t m quiet ack)
 
   -- where it sends, a master's byte does
   not-heard : (b : ℕ) → c .bus ≡ at p Reading t → byteOf c b ≡ record { clock = withBus c (at p Reading t); answer = Nak }
-  unfolding byteOf heardOf
-  not-heard b e = simp e
+  unfolding byteOf
+  not-heard b e = simp (e, bus.not-heard p t b)
 
   unheard : (b : ℕ) → c .bus ≡ at p Reading t → byteOf c b .clock ≡ c
   unheard b e = ap (λ (r : Answered). r .clock) (not-heard b e) ∙ ap (withBus c) (sym e)
