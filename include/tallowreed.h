@@ -16,8 +16,8 @@ extern "C" {
 #endif
 
 /*
- * A state. The length is the version: a state with more in it will have another length, and one of another length is
- * refused. Numbers of several bytes have the low byte first.
+ * A state. The length is the version: a state with more in it will have another length. Numbers of several bytes have
+ * the low byte first.
  *
  *   0  the registers, 00h at 0 to 1Fh at 31
  *  32  the seven latched bytes
@@ -32,7 +32,9 @@ extern "C" {
  *  53  the free divider, 4 bytes
  *  57  the prescaler of the countdown, 4 bytes
  *
- * Bytes that are not exactly a state that the rules allow are refused with 1, and then nothing is written.
+ * A step, a look at the pin and one at a register take bytes that are exactly a state that the rules allow. All others
+ * are refused with 1, those of another length too, and then nothing is written. Power-on and a run ask only for a place
+ * to write a state to: where the length is another, they tell TALLOWREED_NO_PLACE and write nothing.
  */
 #define TALLOWREED_STATE_SIZE 61
 
@@ -50,7 +52,7 @@ enum tallowreed_kind {
     TALLOWREED_POWER_LOSS = 6
 };
 
-/* The refusals. */
+/* The refusals: the rows of the table in the rules, and one that is no row of it. */
 enum tallowreed_refusal {
     TALLOWREED_TAKEN = 0,
     TALLOWREED_BAD_STATE = 1,
@@ -60,10 +62,11 @@ enum tallowreed_refusal {
     TALLOWREED_BAD_SECTION = 5,
     TALLOWREED_BAD_START = 6,
     TALLOWREED_OUTPUT_SHORT = 7,
-    TALLOWREED_FILE_LONG = 8
+    TALLOWREED_FILE_LONG = 8,
+    TALLOWREED_NO_PLACE = 255 /* the length of the lent state is not TALLOWREED_STATE_SIZE; no row has this number */
 };
 
-/* What the wire answers: nothing, an acknowledgement, none of it, or the byte that is read. */
+/* What the wire answers: nothing, ACK, NAK, or the byte that is read. */
 enum tallowreed_answer {
     TALLOWREED_QUIET = 0,
     TALLOWREED_ACK = 1,
@@ -87,8 +90,9 @@ __SIZE_TYPE__ tallowreed_state_size(void);
 
 /*
  * Power-on from start bytes; returns the refusal. With 5, where there are not 19 start bytes, or 6, where a time byte
- * has a fixed bit set, the state is that of 19 zero bytes. With 1, where the state's length is not
- * TALLOWREED_STATE_SIZE, which is looked at first, nothing is written. What the state held before does not matter.
+ * has a fixed bit set, the state is that of 19 zero bytes. With 255, where the state's length is not
+ * TALLOWREED_STATE_SIZE, which is looked at before anything else, nothing is written. What the state held before does
+ * not matter.
  */
 unsigned char tallowreed_power_on(const unsigned char *start, __SIZE_TYPE__ start_length, unsigned char *state,
                                   __SIZE_TYPE__ state_length);
@@ -114,8 +118,9 @@ unsigned int tallowreed_register(const unsigned char *state, __SIZE_TYPE__ state
 /*
  * A whole script file: from its start bytes through all its events, a line of five characters in the output for each,
  * and the last state. Tells the refusal, the index of the event that it is for, and how many events have run. Refused,
- * nothing has run, the output stays as it is, and the state is that of 19 zero bytes; with 1, where the state's length
- * is not TALLOWREED_STATE_SIZE, which is looked at first, the state stays too. Output past the lines stays.
+ * nothing has run, the output stays as it is, and the state is that of 19 zero bytes. With 255, where the state's
+ * length is not TALLOWREED_STATE_SIZE, which is looked at before anything else, the state stays too, and index and
+ * count are 0. Output past the lines stays. What the state held before does not matter.
  */
 unsigned long tallowreed_run(const unsigned char *file, __SIZE_TYPE__ file_length, unsigned char *output,
                              __SIZE_TYPE__ output_length, unsigned char *state, __SIZE_TYPE__ state_length);

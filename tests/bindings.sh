@@ -1,6 +1,6 @@
 #!/bin/sh
-# The Rust package bindings/rust: its layout, its tests and doc examples, and the example boot. Where the archive of the
-# clock cannot be linked the package is type-checked alone.
+# The Rust package bindings/rust: its layout, its tests and doc examples, and the example boot, also with an archive of
+# another version. Where the archive of the clock cannot be linked the package is type-checked alone.
 set -u
 CDPATH= cd -- "$(dirname -- "$0")/.." || exit 1
 
@@ -46,3 +46,11 @@ owed='12200915
 12202915'
 printed=$(cargo run --manifest-path "$package" --quiet --offline --example boot) || fail "the example boot stopped"
 [ "$printed" = "$owed" ] || fail "the example boot printed $(echo "$printed" | tr '\n' ' ')"
+
+# With an archive of another version no clock can be made, and that is an error and no panic.
+other=$(mktemp -d) || exit 1
+trap 'rm -rf "$other"' EXIT
+gcc -c -o "$other/other.o" tests/other_version.c && ar rcs "$other/libsd2068_abi.a" "$other/other.o" ||
+    fail "the archive of another version cannot be made"
+printed=$(TALLOWREED_ARCHIVE_DIR=$other cargo run --manifest-path "$package" --quiet --offline --example boot 2>&1)
+[ "$? $printed" = "1 Error: NoPlace" ] || fail "with an archive of another version the example boot printed $printed"

@@ -44,6 +44,21 @@ static void try_state_bytes(enum side side, size length)
     expect_bytes("state", whole ? started_state : zero_state, state, length);
 }
 
+/* A place too short for a state, with start bytes and an output that are too short as well. */
+static void try_no_place(enum side side, size length)
+{
+    unsigned char *start = put(start_memory, side, zero_start, TALLOWREED_START_SIZE - 1);
+    unsigned char *file = put(file_memory, side, sample_file, SAMPLE_FILE);
+    unsigned char *output = beside(output_memory, side, 0);
+    unsigned char *state = put(state_memory, side, zero_state, length);
+    begin_case("a fenced state to be written, of length", length);
+    begin_call(POWER_ON);
+    expect_number("refusal", TALLOWREED_NO_PLACE, tallowreed_power_on(start, TALLOWREED_START_SIZE - 1, state, length));
+    begin_call(RUN);
+    expect_ran(TALLOWREED_NO_PLACE, tallowreed_run(file, SAMPLE_FILE, output, 0, state, length));
+    expect_bytes("state", zero_state, state, length);
+}
+
 static void try_file(enum side side, size file_length, size output_length, unsigned long ran)
 {
     unsigned char *file = put(file_memory, side, sample_file, file_length);
@@ -79,6 +94,8 @@ void try_fences(void)
             try_start_bytes(side, length);
         for (size length = 0; length <= TALLOWREED_STATE_SIZE; length++)
             try_state_bytes(side, length);
+        for (size length = 0; length < TALLOWREED_STATE_SIZE; length++)
+            try_no_place(side, length);
         try_files(side);
     }
 }

@@ -34,30 +34,43 @@ static void try_looks(const unsigned char *state, size length)
     expect_state_kept();
 }
 
-/* With good start bytes and with none: the state's length is looked at first. */
+static void try_power_on_from(size start_length, unsigned char *state, size length)
+{
+    const unsigned char *start = lend(&start_lent, zero_start, start_length, start_length);
+    begin_call(POWER_ON);
+    expect_number("refusal", TALLOWREED_NO_PLACE, tallowreed_power_on(start, start_length, state, length));
+    expect_state_kept();
+    expect_lent(&start_lent, zero_start, start_length);
+}
+
+/* With good start bytes, with 18 and with none: the state's length is looked at before them. */
 static void try_power_ons(unsigned char *state, size length)
 {
-    const unsigned char *start = lend(&start_lent, zero_start, sizeof zero_start, sizeof zero_start);
+    try_power_on_from(TALLOWREED_START_SIZE, state, length);
+    try_power_on_from(TALLOWREED_START_SIZE - 1, state, length);
     begin_call(POWER_ON);
-    expect_number("refusal", TALLOWREED_BAD_STATE, tallowreed_power_on(start, sizeof zero_start, state, length));
-    expect_state_kept();
-    expect_lent(&start_lent, zero_start, sizeof zero_start);
-    begin_call(POWER_ON);
-    expect_number("refusal", TALLOWREED_BAD_STATE, tallowreed_power_on(0, 0, state, length));
+    expect_number("refusal", TALLOWREED_NO_PLACE, tallowreed_power_on(0, 0, state, length));
     expect_state_kept();
 }
 
-static void try_runs(unsigned char *state, size length)
+static void try_run_of(size file_length, unsigned char *state, size length)
 {
-    const unsigned char *file = lend(&file_lent, sample_file, SAMPLE_FILE, SAMPLE_FILE);
+    const unsigned char *file = lend(&file_lent, sample_file, SAMPLE_FILE, file_length);
     unsigned char *output = lend(&output_lent, 0, 0, SAMPLE_LINES);
     begin_call(RUN);
-    expect_ran(TALLOWREED_BAD_STATE, tallowreed_run(file, SAMPLE_FILE, output, SAMPLE_LINES, state, length));
+    expect_ran(TALLOWREED_NO_PLACE, tallowreed_run(file, file_length, output, SAMPLE_LINES, state, length));
     expect_state_kept();
     expect_lent(&file_lent, sample_file, SAMPLE_FILE);
     expect_lent(&output_lent, 0, 0);
+}
+
+/* Of a good file, of one that is too long and of none: the state's length is looked at before it. */
+static void try_runs(unsigned char *state, size length)
+{
+    try_run_of(SAMPLE_FILE, state, length);
+    try_run_of(LONGEST_FILE + 1, state, length);
     begin_call(RUN);
-    expect_ran(TALLOWREED_BAD_STATE, tallowreed_run(0, 0, 0, 0, state, length));
+    expect_ran(TALLOWREED_NO_PLACE, tallowreed_run(0, 0, 0, 0, state, length));
     expect_state_kept();
 }
 
@@ -113,6 +126,8 @@ static void try_null_outputs(void)
 
 void try_lengths(void)
 {
+    begin_case("states of another length than", TALLOWREED_STATE_SIZE);
+    expect_number("the number for no place", 255, TALLOWREED_NO_PLACE);
     for (size length = 0; length <= 200; length++)
         if (length != TALLOWREED_STATE_SIZE)
             try_length(length);

@@ -4,8 +4,7 @@
 #include "report.h"
 #include "sample.h"
 
-/* The longest file that is not refused, and the most events that it can have. */
-#define LONGEST_FILE 16384
+/* The most events that a file can have. */
 #define MOST_EVENTS 4089
 
 static unsigned char file[MOST_OTHER];
@@ -78,7 +77,7 @@ static void try_far_state(unsigned char *far)
     memcpy(far, zero_state, TALLOWREED_STATE_SIZE);
     begin_case("a state of length", length);
     begin_call(POWER_ON);
-    expect_number("refusal", TALLOWREED_BAD_STATE, tallowreed_power_on(zero_start, TALLOWREED_START_SIZE, far, length));
+    expect_number("refusal", TALLOWREED_NO_PLACE, tallowreed_power_on(zero_start, TALLOWREED_START_SIZE, far, length));
     begin_call(STEP);
     expect_told(TALLOWREED_BAD_STATE, tallowreed_step(far, length, TALLOWREED_START, 0, 0));
     begin_call(PIN);
@@ -86,7 +85,7 @@ static void try_far_state(unsigned char *far)
     begin_call(REGISTER);
     expect_told(TALLOWREED_BAD_STATE, tallowreed_register(far, length, CTR1));
     begin_call(RUN);
-    expect_ran(TALLOWREED_BAD_STATE, tallowreed_run(sample_file, SAMPLE_FILE, 0, 0, far, length));
+    expect_ran(TALLOWREED_NO_PLACE, tallowreed_run(sample_file, SAMPLE_FILE, 0, 0, far, length));
     expect_bytes("state", zero_state, far, TALLOWREED_STATE_SIZE);
 }
 

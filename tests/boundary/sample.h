@@ -10,6 +10,9 @@
 extern const unsigned char sample_file[SAMPLE_FILE];
 extern const unsigned char sample_lines[SAMPLE_LINES];
 
+/* The longest file that is not refused. */
+#define LONGEST_FILE 16384
+
 /* How the file ends: taken, and one event has run. */
 #define SAMPLE_RAN (1UL << 32)
 

@@ -4,7 +4,7 @@ use std::error::Error;
 use std::fmt;
 
 /// Why a power-on, a state, an event or a script file is refused. What is refused has changed
-/// nothing.
+/// nothing. The rules list the refusals 1 to 8.
 ///
 /// ```
 /// use tallowreed::{Clock, Refusal};
@@ -33,11 +33,14 @@ pub enum Refusal {
     OutputShort = 7,
     /// 8: a script file is longer than 16,384 bytes.
     FileLong = 8,
+    /// 255: the archive has states of another length, see [`state_size`](crate::state_size), and so
+    /// finds no place for one here. No row of the rules has this number.
+    NoPlace = 255,
 }
 
 impl Refusal {
     /// All refusals, in the order of their numbers.
-    pub const ALL: [Refusal; 8] = [
+    pub const ALL: [Refusal; 9] = [
         Refusal::State,
         Refusal::Kind,
         Refusal::Field,
@@ -46,9 +49,10 @@ impl Refusal {
         Refusal::Start,
         Refusal::OutputShort,
         Refusal::FileLong,
+        Refusal::NoPlace,
     ];
 
-    /// The refusal's number, 1 to 8, as the script program prints it.
+    /// The refusal's number: 1 to 8, as the script program prints it, or 255.
     #[must_use]
     pub fn number(self) -> u8 {
         self as u8
@@ -76,6 +80,7 @@ impl fmt::Display for Refusal {
             Refusal::Start => "a start byte of the time has a bit set that is always 0",
             Refusal::OutputShort => "the output is too short for the lines",
             Refusal::FileLong => "the file is longer than 16,384 bytes",
+            Refusal::NoPlace => "the archive has states of another length",
         };
         write!(f, "refused {}: {reason}", self.number())
     }

@@ -1,4 +1,4 @@
-//! The eight refusals, each met once, with its number and its words.
+//! The eight refusals of the rules, each met once, with its number and its words.
 
 use std::error::Error;
 
@@ -25,8 +25,11 @@ fn each_is_met() {
         of_file(&file(&start_bytes(TIME), &[START]), &mut [0; 4]),
         of_file(&vec![0; LONGEST_FILE + 1], &mut []),
     ];
-    assert_eq!(met, Refusal::ALL);
+    assert_eq!(met, Refusal::ALL[..8]);
     assert_eq!(met.map(Refusal::number), [1, 2, 3, 4, 5, 6, 7, 8]);
+    // Met only with an archive of another version.
+    assert_eq!(Refusal::ALL[8], Refusal::NoPlace);
+    assert_eq!(Refusal::NoPlace.number(), 255);
 }
 
 #[test]
@@ -52,7 +55,7 @@ fn a_power_on_counts_its_bytes_before_it_looks_at_them() {
 fn words_begin_with_the_number() {
     let errors = Refusal::ALL.map(|refusal| -> Box<dyn Error> { refusal.into() });
     let words = errors.map(|error| error.to_string());
-    for (number, words) in (1..).zip(&words) {
+    for (number, words) in (1..=8).chain([255]).zip(&words) {
         assert!(words.starts_with(&format!("refused {number}: ")), "{words}");
         assert!(!words.contains('\n'));
     }
