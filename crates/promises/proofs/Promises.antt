@@ -21,7 +21,7 @@ use Rattle.events.specs.Answer.{textOf}
 use Rattle.events.specs.Refusal.{faultIn}
 use Rattle.sd2068.specs.declared.clock.Clock.{Clock}
 use Rattle.sd2068.specs.Power.{zeroStart, powerOnOf}
-use Rattle.sd2068.specs.Reading.{registerOf}
+use Rattle.sd2068.specs.Reading.{registerOf, registersOf}
 use Rattle.sd2068.specs.Pin.{pinOf}
 use Rattle.sd2068.specs.WellFormed.{wellFormedOf, Listed}
 use Rattle.sd2068.specs.declared.answers.Answered.{Answered}
@@ -30,10 +30,11 @@ use Rattle.sd2068.specs.Step.{Told, toldOf, eventOf, stepOf}
 use Rattle.sd2068.specs.Rows.{StepDue, PowerDue}
 use Rattle.sd2068.specs.Run as Run
 use Rattle.sd2068.specs.Run.{nak, step, event, after, pulsesIn, readBy, byteBy}
-use Rattle.sd2068.specs.Kept.{Pointed, ageOf, Pointing, pulsesSince, Kept, readBack, shownBy, ReadsBack, KeepsTime}
+use Rattle.sd2068.specs.Kept.{Unlocked, Pointed, ageOf, Pointing, pulsesSince, Kept, readBack, shownBy, ReadsBack, KeepsTime}
 use Rattle.sd2068.proofs.WellLaws.{parts, whole, power-on-well, steps-well}
 use Rattle.sd2068.proofs.RowLaws as rows
 use Rattle.sd2068.proofs.ListedLaws.{well-listed, listed-well}
+use Rattle.sd2068.proofs.RegisterLaws as registers
 use Rattle.sd2068.proofs.SettingLaws as setting
 use Rattle.sd2068.proofs.StillLaws as still
 use Rattle.sd2068.proofs.KeptLaws.{event-kept, step-kept, one-reading, same-reading}
@@ -59,13 +60,14 @@ use Rattle.sd2068_abi.specs.Abi.{lent, acceptedOf, powerOf, afterIn, toldIn, le
 use Rattle.sd2068_abi.specs.Said.{refusalIn, runRefusalIn, runIndexIn, Said, saidIn, saidOf, saidBy, EventBytes}
 use Rattle.sd2068_abi.proofs.BoundaryLaws as board
 use Rattle.promises.specs.Fixed.{fixed}
-use Rattle.promises.specs.Registers.{bit, viewOf, Looks, State}
+use Rattle.promises.specs.Registers.{bit, viewOf, Looks, State, lockOpen}
 use Rattle.promises.specs.Seen.{Seen, Shows, startSeen, stopSeen, byteSeen, readSeen, pulsesSeen, lossSeen, poweredView, startAt, eventSeen}
 use Rattle.promises.specs.Script.{readsIn, Scripted, fromAddress, KeepsTimeIn}
 use Rattle.promises.specs.Board.{OnBoard, KeepsTimeOn, digitsTold}
 use Rattle.promises.specs.Ledger.{digitsOf, digitsRead, SameMinute, built}
 use Rattle.promises.specs.Marked.{Marked}
 use Rattle.promises.proofs.FixedLaws as bits
+use Rattle.promises.proofs.LockLaws as lock
 use Rattle.promises.proofs.SeenLaws as seen
 use Rattle.promises.proofs.StateLaws as state
 use Rattle.promises.proofs.ViewLaws as view
@@ -243,6 +245,10 @@ power-on = seen.power-on
 pub power-state : (s : List ℕ) → State (powerOnOf s .state)
 power-state = state.power-state
 
+-- what the public function of all registers hands back is each of the 32, at its number
+pub all-registers : (c : Clock) → (length (registersOf c) ≡ 32) × ((a : ℕ) → a < 32 → getD (registersOf c) a 0 ≡ registerOf c a)
+all-registers c = (registers.registers-length c 32, registers.registers-listed c 32)
+
 -- what a step shows leaves one result and no other
 pub one-step : (r q : Told) (s : Seen) → State (r .state) → State (q .state) → Shows r s → Shows q s → r ≡ q
 one-step = view.one-step
@@ -292,8 +298,11 @@ board-run = board.board-run
 
 -- Promise 3: a time that was set reads back as many seconds on as the pulses since make.
 
--- the lock that a setting finds open is open by the bits of 0Fh and 10h
--- START, 64h and 00h, with the lock open, lead to where a time is set, and so do they by steps
+-- the lock that a setting finds open is open by the bits of 10h and 0Fh
+pub unlocked-bits : (c : Clock) → Unlocked c ↔ (lockOpen (registerOf c) ≡ true)
+unlocked-bits = lock.unlocked-bits
+
+-- START, 64h and 00h, with the lock open, lead to where a time is set
 module _ (c : Clock) (s : Pointing c) where
   pub start-points :
       let there = after event c (Run.start ∷ s .pointing) in

@@ -32,6 +32,7 @@ use Rattle.control.specs.declared.control.Control.{Control}
 use Rattle.control.specs.Lock.{ctr1Of, ctr2Of}
 use Rattle.control.specs.Control as control
 use Rattle.control.specs.Pin.{drivenOf, bellOf, lowHalfOf, outputOf}
+use Rattle.control.proofs.BitLaws.{ctr1, ctr2}
 use Rattle.bus.specs.declared.phase.Bus.{Bus}
 use Rattle.bus.specs.declared.bytes.Effect.{Effect}
 use Rattle.bus.specs.declared.bytes.Effect.the-variants.{None, Latch, Write}
@@ -53,7 +54,6 @@ use Rattle.sd2068.specs.Writing.{ramStoredOf, storesOf, writtenBy, writeOf}
 use Rattle.sd2068.specs.Transfer.{startedOf, stoppedOf, effectedBy, byteOf, renewsOf, renewedOf, sentBy, readOf}
 use Rattle.sd2068.specs.WellFormed.{wellFormedOf}
 use Rattle.sd2068.specs.Step.{eventOf, refusalOf, stepOf}
-use Rattle.sd2068.proofs.ListedLaws.{ctr1, ctr2}
 use Rattle.state_bytes.specs.Decoded as decoded
 use Rattle.sd2068_abi.specs.Told.{answerByte}
 
