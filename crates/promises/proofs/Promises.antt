@@ -29,8 +29,8 @@ use Rattle.sd2068.specs.Pulse.{pulseOf, pulsesOf}
 use Rattle.sd2068.specs.Step.{Told, toldOf, eventOf, stepOf}
 use Rattle.sd2068.specs.Rows.{StepDue, PowerDue}
 use Rattle.sd2068.specs.Run as Run
-use Rattle.sd2068.specs.Run.{nak, step, event, after, pulsesIn, readBy, byteBy}
-use Rattle.sd2068.specs.Kept.{Unlocked, Pointed, ageOf, Pointing, pulsesSince, Kept, readBack, shownBy, ReadsBack, KeepsTime}
+use Rattle.sd2068.specs.Run.{nak, step, event, after, pulsesIn, readBy, byteBy, spoken}
+use Rattle.sd2068.specs.Kept.{Unlocked, keptTimeOf, Pointed, Setting, ageOf, Pointing, pulsesSince, Kept, readBack, shownBy, ReadsBack, KeepsTime}
 use Rattle.sd2068.proofs.WellLaws.{parts, whole, power-on-well, steps-well}
 use Rattle.sd2068.proofs.RowLaws as rows
 use Rattle.sd2068.proofs.ListedLaws.{well-listed, listed-well}
@@ -308,6 +308,14 @@ module _ (c : Clock) (s : Pointing c) where
       let there = after event c (Run.start ∷ s .pointing) in
       (p : Pointed there) × ((p .transfer .age ≡ ageOf (c .bus .phase) + pulsesIn (s .pointing)) × (registerOf there 0x12 ≡ registerOf c 0x12))
   start-points = setting.start-points c s
+
+  -- and the seven bytes after them, sent in time, are a setting
+  pub start-sets :
+      (t sent : Time) → keptTimeOf sent ≡ t → (rest : List Event)
+      → spoken readBy rest
+      ≡ Run.byte (sent .minutes) ∷ Run.byte (sent .hours) ∷ Run.byte (sent .weekday) ∷ Run.byte (sent .day) ∷ Run.byte (sent .month) ∷ Run.byte (sent .year) ∷ []
+      → ageOf (c .bus .phase) + (pulsesIn (s .pointing) + pulsesIn rest) < 16384 → Setting (after event c (Run.start ∷ s .pointing)) t
+  start-sets = setting.start-sets c s
 
 -- what may stand between the bytes of a setting and between the reads of a reading: beside pulses every event that changes nothing, and these are all
 module _ (c : Clock) (e : Event) (t : Transfer) where

@@ -35,7 +35,7 @@ use Rattle.sd2068.specs.Pulse.{pulsesOf}
 use Rattle.sd2068.specs.Transfer.{startedOf}
 use Rattle.sd2068.specs.Step.{eventOf}
 use Rattle.sd2068.proofs.GroupLaws.{pulses-hand, pulses-bus, pulses-lock}
-use Rattle.sd2068.specs.Run.{Machine, start, byte, takenOf, event, after, pulsesIn, readBy}
+use Rattle.sd2068.specs.Run.{Machine, start, byte, takenOf, event, after, pulsesIn, readBy, spoken}
 use Rattle.sd2068.specs.Kept.{Unlocked, keptTimeOf, Pointed, Setting, ageOf, Pointing, setBy}
 use Rattle.sd2068.proofs.PhaseLaws.{hears-write, hears-pointer, hears-data}
 use Rattle.sd2068.proofs.UnheardLaws.{read-unheard}
@@ -304,3 +304,11 @@ module _ (c : Clock) (s : Pointing c) where
     },
     (refl, arrives .trimmed),
   )
+
+  -- and the seven bytes after them, sent in time, are a setting
+  pub start-sets :
+      (t sent : Time) → keptTimeOf sent ≡ t → (rest : List Event)
+      → spoken readBy rest ≡ byte (sent .minutes) ∷ byte (sent .hours) ∷ byte (sent .weekday) ∷ byte (sent .day) ∷ byte (sent .month) ∷ byte (sent .year) ∷ []
+      → ageOf (c .bus .phase) + (pulsesIn (s .pointing) + pulsesIn rest) < 16384 → Setting there t
+  start-sets t sent kept rest six timely =
+      record { pointed = start-points .0; sent = sent; kept = kept; rest = rest; six = six; timely = omega (arith, start-points .1 .0, timely) }
