@@ -7,6 +7,7 @@ use crate::lines::print_run;
 use crate::pen::print;
 use crate::pen::print_decimal;
 use libc::STDIN_FILENO;
+use script::put_refused;
 use script::run;
 ghost use Prim.Native.Nat.{_≤_};
 ghost use lib.ListN.{length};
@@ -29,9 +30,16 @@ fn explain(file: &[u8], out: &mut [u8])
     if n == 0 {
         print_run(file, ran.count as u16);
     } else {
-        print(b"refused");
-        print_decimal(n as u64);
-        print_decimal(ran.index as u64);
-        print(b"\n");
+        print_refusal(n, ran.index);
     }
+}
+
+// The script program's line, with the index before its newline. (rules 9.6 and 11.7)
+fn print_refusal(n: u8, index: usize) {
+    let mut line = [0u8; 12];
+    let size = put_refused(&mut line, n);
+    let end = size - 1;
+    print(&line[..end]);
+    print_decimal(index as u64);
+    print(b"\n");
 }

@@ -7,4 +7,5 @@ pub mod PartLaws
 pub mod LineLaws
 pub mod FileLaws
 pub mod RunLaws
+pub mod RefusedLaws
 pub mod Settled

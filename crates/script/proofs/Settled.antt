@@ -1,4 +1,4 @@
--- Every public contract of this crate settles its result, and that of a run the output too. Assumes nothing.
+-- Every public contract of this crate settles its result, and the output where it is lent one. Assumes nothing.
 use mathlib.Core.Path.{_≡_, refl, sym, ap, _∙_}
 use mathlib.Core.List.{List}
 use Prim.Native.Nat.{ℕ}
@@ -12,12 +12,15 @@ use Rattle.sd2068.specs.Step.{started}
 use Rattle.sd2068.proofs.Settled.{started-back, started-again}
 use Rattle.script.specs.declared.file.Ran.{Ran}
 use Rattle.script.specs.File.{Run, ran}
+use Rattle.script.specs.Refused.{Put, hasPut}
 use Rattle.script.proofs.contents.listed.Kinds as listed-kinds
 use Rattle.script.proofs.contents.listed.Reads as listed-reads
 use Rattle.script.proofs.contents.start.Kinds as start-kinds
 use Rattle.script.proofs.contents.start.Reads as start-reads
 use Rattle.script.proofs.file.run.Kinds as run-kinds
 use Rattle.script.proofs.file.run.Reads as run-reads
+use Rattle.script.proofs.refused.put_refused.Kinds as refused-kinds
+use Rattle.script.proofs.refused.put_refused.Reads as refused-reads
 
 -- a result can be had back from what it says
 abbrev ran-back : Run → Ran
@@ -37,6 +40,11 @@ pub run-settles : RunSettles
 run-settles κs a e f x y p q =
     let same : ran x (now (e .1 .0)) ≡ ran y (now (f .1 .0)) = p ∙ sym q in
     (sym (ran-again x (now (e .1 .0))) ∙ ap ran-back same ∙ ran-again y (now (f .1 .0)), ap (λ (m : Run). m .output) same)
+
+pub refused-settles : (κs : Lfts 1) (a : Dens κs refused-kinds.ps) (e f : AtExit (endedOf 1 refused-kinds.ps refused-kinds.r) κs) (x y : resT refused-kinds.r κs .Denot) → refused-reads.Post κs a x e → refused-reads.Post κs a y f → (x ≡ y) × (now (e .0) ≡ now (f .0))
+refused-settles κs a e f x y p q =
+    let same : hasPut x (now (e .0)) ≡ hasPut y (now (f .0)) = p ∙ sym q in
+    (ap (λ (m : Put). m .size) same, ap (λ (m : Put). m .output) same)
 
 pub listed-settles : Settles 1 listed-kinds.ps listed-kinds.r listed-reads.Post
 listed-settles κs a e f x y = settled (λ z. z) (λ z. z) (λ z. refl)

@@ -5,3 +5,4 @@ pub mod Checks
 pub mod Rows
 pub mod Lines
 pub mod File
+pub mod Refused

@@ -5,9 +5,11 @@ mod event;
 mod file;
 mod header;
 mod lines;
+mod refused;
 mod sections;
 
 pub use contents::listed;
 pub use contents::start;
 pub use file::Ran;
 pub use file::run;
+pub use refused::put_refused;

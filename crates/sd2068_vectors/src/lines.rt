@@ -3,6 +3,7 @@ use events::Answer;
 use events::Refusal;
 use libc::STDOUT_FILENO;
 use script::Ran;
+use script::put_refused;
 use sd2068::Clock;
 use sd2068::Stepped;
 use state_bytes::bytes_of;
@@ -15,7 +16,10 @@ pub fn print_refusal(refusal: Refusal) {
 fn print_number(refusal: Refusal, end: &[u8]) {
     let n = refusal.number();
     if 0 < n {
-        print_figure(b"refused ", n as u64);
+        let mut line = [0u8; 12];
+        let size = put_refused(&mut line, n);
+        let newline = size - 1;
+        print(&line[..newline]);
         print(end);
     }
 }

@@ -24,26 +24,8 @@ cast-print-run c =
 print-run-requires : tie.Need-print-run-requires
 print-run-requires c κs = tt
 
-slice-aggregate-print : tie.Need-slice-aggregate-print
-slice-aggregate-print c = search needs
-
-print-requires : tie.Need-print-requires
-print-requires c κs = tt
-
-cast-print-decimal : tie.Need-cast-print-decimal
-cast-print-decimal c = search needs
-
-print-decimal-requires : tie.Need-print-decimal-requires
-print-decimal-requires c κs = tt
-
-print-decimal-requires-2 : tie.Need-print-decimal-requires-2
-print-decimal-requires-2 c κs = tt
-
-slice-aggregate-print-2 : tie.Need-slice-aggregate-print-2
-slice-aggregate-print-2 c = search needs
-
-print-requires-2 : tie.Need-print-requires-2
-print-requires-2 c κs = tt
+print-refusal-requires : tie.Need-print-refusal-requires
+print-refusal-requires c κs = tt
 
 same-length : tie.Need-same-length
 same-length c = search needs
@@ -65,13 +47,7 @@ explain-spec =
     number-requires
     cast-print-run
     print-run-requires
-    slice-aggregate-print
-    print-requires
-    cast-print-decimal
-    print-decimal-requires
-    print-decimal-requires-2
-    slice-aggregate-print-2
-    print-requires-2
+    print-refusal-requires
     same-length
     returns
     same-length-2
