@@ -16,7 +16,7 @@ struct Run {
     drawn: u32,
 }
 
-pub fn print_dates() {
+pub(crate) fn print_dates() {
     let mut drawn = 1;
     for line in 0..25 {
         drawn = print_line(line, drawn);

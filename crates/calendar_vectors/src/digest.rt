@@ -16,16 +16,16 @@ fn mix_byte(d: u32, b: u8) -> u32 {
 }
 
 // The figure that stands for none is one that no other can be.
-pub fn mix_none(d: u32) -> u32 {
+pub(crate) fn mix_none(d: u32) -> u32 {
     mix(d, 4294967290)
 }
 
-pub fn mix_bool(d: u32, b: bool) -> u32 {
+pub(crate) fn mix_bool(d: u32, b: bool) -> u32 {
     if b { mix(d, 1) } else { mix(d, 0) }
 }
 
 // The seven bytes, in the order of their registers. (rule 2.1)
-pub fn mix_time(d: u32, t: Time) -> u32 {
+pub(crate) fn mix_time(d: u32, t: Time) -> u32 {
     let to_seconds = mix_byte(d, t.seconds);
     let to_minutes = mix_byte(to_seconds, t.minutes);
     let to_hours = mix_byte(to_minutes, t.hours);
@@ -35,16 +35,16 @@ pub fn mix_time(d: u32, t: Time) -> u32 {
     mix_byte(to_month, t.year)
 }
 
-pub fn mix_number(d: u32, n: SecondNumber) -> u32 {
-    match n {
-        SecondNumber::Second(k) => mix(d, k),
-        SecondNumber::None => mix_none(d),
-    }
+pub(crate) fn mix_number(d: u32, n: SecondNumber) -> u32 {
+    let SecondNumber::Second(k) = n else {
+        return mix_none(d);
+    };
+    mix(d, k)
 }
 
-pub fn mix_found(d: u32, f: TimeFound) -> u32 {
-    match f {
-        TimeFound::At(t) => mix_time(d, t),
-        TimeFound::None => mix_none(d),
-    }
+pub(crate) fn mix_found(d: u32, f: TimeFound) -> u32 {
+    let TimeFound::At(t) = f else {
+        return mix_none(d);
+    };
+    mix_time(d, t)
 }

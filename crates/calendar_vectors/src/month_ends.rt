@@ -10,7 +10,7 @@ use dates::DayNumber;
 use fields::HourMode;
 use fields::byte;
 
-pub fn print_month_ends() {
+pub(crate) fn print_month_ends() {
     for line in 0..12 {
         print_line(line);
     }

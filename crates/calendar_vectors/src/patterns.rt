@@ -39,7 +39,7 @@ struct Tally {
     drawn: u32,
 }
 
-pub fn print_patterns() {
+pub(crate) fn print_patterns() {
     let mut drawn = 2;
     for line in 0..10 {
         drawn = print_line(line, drawn);
@@ -95,10 +95,10 @@ fn mix_pattern(d: u32, t: Time, n: u32) -> u32 {
 }
 
 fn is_numbered(t: Time) -> bool {
-    match t.number() {
-        SecondNumber::Second(_) => true,
-        SecondNumber::None => false,
-    }
+    let SecondNumber::Second(_) = t.number() else {
+        return false;
+    };
+    true
 }
 
 // One more where b holds; no count here comes near the wrap.

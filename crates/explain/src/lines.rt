@@ -15,7 +15,7 @@ use script::listed;
 use script::start;
 use sd2068::Clock;
 
-pub fn print_run(file: &[u8], count: u16) {
+pub(crate) fn print_run(file: &[u8], count: u16) {
     let begun = start(file);
     let mut clock = begun.clock;
     print_start(clock);
@@ -38,9 +38,7 @@ fn print_start(c: Clock) {
 
 // Its pulses, if it has any, then its line; hands on the state that it leaves.
 fn print_event(i: u16, event: Event, before: Clock) -> Clock {
-    if event.kind == 5 {
-        print_pulses(before, event.count);
-    }
+    print_passed(event, before);
     let deed = deed_of(before, event.kind, event.byte, event.count);
     let done = before.step(event.kind, event.byte, event.count);
     let answer = done.answer;
@@ -52,6 +50,15 @@ fn print_event(i: u16, event: Event, before: Clock) -> Clock {
     let clock = done.clock;
     print_left(clock);
     clock
+}
+
+// Of the kinds only pulses have lines of their own. (rule 11.8)
+fn print_passed(event: Event, before: Clock) {
+    let kind = event.kind;
+    match kind {
+        5 => print_pulses(before, event.count),
+        _ => {}
+    }
 }
 
 fn print_fields(i: u16, event: Event) {

@@ -6,30 +6,30 @@ use libc::STDOUT_FILENO;
 use sd2068::Clock;
 use state_bytes::bytes_of;
 
-pub fn print(text: &[u8]) {
+pub(crate) fn print(text: &[u8]) {
     io::write_all(STDOUT_FILENO, text);
 }
 
-pub fn print_decimal(n: u64) {
+pub(crate) fn print_decimal(n: u64) {
     print(b" ");
     io::print_decimal(STDOUT_FILENO, n);
 }
 
 // Two digits, with no space before them.
-pub fn print_byte(b: u8) {
+pub(crate) fn print_byte(b: u8) {
     let answer = Answer::Byte(b);
     let text = answer.text();
     print(&text);
 }
 
 // A letter, as that of the pin.
-pub fn print_letter(letter: u8) {
+pub(crate) fn print_letter(letter: u8) {
     let text = [b' ', letter];
     print(&text);
 }
 
 // The 61 bytes of a state. (rule 10.2)
-pub fn print_state(c: Clock) {
+pub(crate) fn print_state(c: Clock) {
     let bytes = bytes_of(c);
     let mut text = [b' '; 123];
     for i in 0..61 {
@@ -44,9 +44,10 @@ pub fn print_state(c: Clock) {
 }
 
 // The second number of a time, where it has one. (rule 3.14)
-pub fn print_number(t: Time) {
-    match t.number() {
-        SecondNumber::Second(n) => print_decimal(n),
-        SecondNumber::None => print(b" -"),
-    }
+pub(crate) fn print_number(t: Time) {
+    let SecondNumber::Second(n) = t.number() else {
+        print(b" -");
+        return;
+    };
+    print_decimal(n);
 }

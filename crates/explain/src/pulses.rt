@@ -101,7 +101,7 @@ fn print_counts(c: Counts) {
     print(b"\n");
 }
 
-pub fn print_pulses(before: Clock, count: u16) {
+pub(crate) fn print_pulses(before: Clock, count: u16) {
     let mut clock = before;
     let mut letter = letter_of(before);
     let mut counts = Counts {

@@ -9,7 +9,7 @@ ghost use Prim.Native.Nat.{_+_, _≤_};
 ghost use lib.ListN.{length};
 
 // The room, the file's length and the file; whether all of it was there.
-pub fn from_file() -> bool {
+pub(crate) fn from_file() -> bool {
     let mut sizes = [0u8; 4];
     let got = io::read_full(STDIN_FILENO, &mut sizes);
     if got < 4 {

@@ -9,7 +9,7 @@ use state_bytes::clock_of;
 const MOST: u32 = 1000000;
 
 // Items until the input ends.
-pub fn run_all() {
+pub(crate) fn run_all() {
     let mut left = MOST;
     while 0 < left {
         if !run_next() {

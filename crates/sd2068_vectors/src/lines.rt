@@ -9,7 +9,7 @@ use sd2068::Stepped;
 use state_bytes::bytes_of;
 
 // A line, or nothing for no refusal.
-pub fn print_refusal(refusal: Refusal) {
+pub(crate) fn print_refusal(refusal: Refusal) {
     print_number(refusal, b"\n");
 }
 
@@ -25,7 +25,7 @@ fn print_number(refusal: Refusal, end: &[u8]) {
 }
 
 // A step's answer and pin, behind its refusal; whether it was taken.
-pub fn print_step(r: Stepped) -> bool {
+pub(crate) fn print_step(r: Stepped) -> bool {
     let refusal = r.refusal;
     let answer = r.answer;
     let pin = r.pin;
@@ -37,7 +37,7 @@ pub fn print_step(r: Stepped) -> bool {
     refusal.number() == 0
 }
 
-pub fn print(text: &[u8]) {
+pub(crate) fn print(text: &[u8]) {
     io::write_all(STDOUT_FILENO, text);
 }
 
@@ -62,7 +62,7 @@ fn print_bytes(bytes: &[u8], from: usize) {
 }
 
 // All of a state: the registers as the chip shows them, then the bytes that stand behind them.
-pub fn print_state(c: Clock) {
+pub(crate) fn print_state(c: Clock) {
     let registers = c.registers();
     print_bytes(&registers, 0);
     let bytes = bytes_of(c);
@@ -71,7 +71,7 @@ pub fn print_state(c: Clock) {
 }
 
 // What the run of a file hands back, but for its lines.
-pub fn print_ran(ran: Ran) {
+pub(crate) fn print_ran(ran: Ran) {
     let refusal = ran.refusal;
     print_figure(b"refusal ", refusal.number() as u64);
     print_figure(b" index ", ran.index as u64);

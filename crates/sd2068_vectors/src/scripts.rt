@@ -6,7 +6,7 @@ use libc::STDIN_FILENO;
 use sd2068::Clock;
 
 // The state is shown after a STOP, after a power loss and at the end.
-pub fn run_events(start: Clock) {
+pub(crate) fn run_events(start: Clock) {
     let mut count = [0u8; 2];
     io::read_full(STDIN_FILENO, &mut count);
     let mut ran = Ran {
@@ -33,9 +33,18 @@ fn run_event(c: Clock) -> Ran {
     let kind = event[0];
     let r = c.step(kind, event[1], word(event[2], event[3]));
     let clock = r.clock;
-    let shown = print_step(r) & ((kind == 1) | (kind == 6));
+    let shown = print_step(r) & shows(kind);
     if shown {
         print_state(clock);
     }
     Ran { clock, shown }
+}
+
+// A STOP and a power loss.
+fn shows(kind: u8) -> bool {
+    match kind {
+        1 => true,
+        6 => true,
+        _ => false,
+    }
 }
