@@ -18,4 +18,5 @@ pub mod BoardLaws
 pub mod MarkedCases
 pub mod Witness
 pub mod ScriptWitness
+pub mod BoardWitness
 pub mod Promises

@@ -30,7 +30,7 @@ use Rattle.sd2068.specs.Step.{Told, toldOf, eventOf, stepOf}
 use Rattle.sd2068.specs.Rows.{StepDue, PowerDue}
 use Rattle.sd2068.specs.Run as Run
 use Rattle.sd2068.specs.Run.{nak, step, event, after, pulsesIn, readBy, byteBy, spoken}
-use Rattle.sd2068.specs.Kept.{Unlocked, keptTimeOf, Pointed, Setting, ageOf, Pointing, pulsesSince, Kept, readBack, shownBy, ReadsBack, KeepsTime}
+use Rattle.sd2068.specs.Kept.{Unlocked, keptTimeOf, Pointed, Setting, ageOf, Pointing, setBy, pulsesSince, Kept, readBack, shownBy, ReadsBack, KeepsTime}
 use Rattle.sd2068.proofs.WellLaws.{parts, whole, power-on-well, steps-well}
 use Rattle.sd2068.proofs.RowLaws as rows
 use Rattle.sd2068.proofs.ListedLaws.{well-listed, listed-well}
@@ -77,6 +77,7 @@ use Rattle.promises.proofs.BoardLaws as on-boards
 use Rattle.promises.proofs.MarkedCases as cases
 use Rattle.promises.proofs.Witness as run
 use Rattle.promises.proofs.ScriptWitness as file
+use Rattle.promises.proofs.BoardWitness as on-a-board
 
 -- Promise 1: refusals come when their rows say and never else, and then nothing has changed.
 
@@ -348,7 +349,7 @@ module _ (t : Time) (k : ℕ) (l : Legal t k) where
       → registerOf c 0x12 ≡ registerOf d 0x12 → pulsesSince (r .setting) (r .traffic) ≡ pulsesSince (s .setting) (s .traffic) → readBack r ≡ readBack s
   other-traffic c d r s trim pulses = same-reading trim pulses (time-kept c r) (time-kept d s)
 
-  -- and any two readings, of events, of steps or of scripts
+  -- and any two readings, of events, of steps, of scripts or of boards
   pub other-reading : {f p : ℕ} {a b : List ℕ} {x y : List (List ℕ)} → ReadsBack t k f p a x → ReadsBack t k f p b y → x ≡ y
   other-reading = one-reading
 
@@ -380,6 +381,15 @@ scripted-read = file.scripted-read
 pub scripted-kept : KeepsTimeIn 219964500 scripted (runOf file.file file.out .output)
 unfolding scripted
 scripted-kept = file.scripted-kept
+
+-- a run by steps from a well-formed state is one on its bytes, and the witness is one
+pub lent-run :
+    (c : Clock) → Arrays c → wellFormedOf c ≡ true → ((i : ℕ) → getD (bytesOf c) i 0 < 256) → {t : Time} (r : Kept step c t)
+    → EventBytes ((setBy (r .setting) ++ r .traffic) ++ (Run.byte 0x65 ∷ (r .reading .reads ++ (r .reading .last ∷ [])))) → OnBoard t
+lent-run = on-a-board.lent-run
+
+pub boarded : OnBoard run.set
+boarded = on-a-board.boarded
 
 -- The ledger: two readings that show the same eight digits, in one hour mode, were read in the same minute of a year.
 pub one-id :

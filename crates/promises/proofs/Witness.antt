@@ -143,7 +143,7 @@ spares m c (e ∷ es) t =
     (spares m (m c e .state) es (both-right s r u))
 
 -- everything that promise 3 asks for
-pub witness : Kept event ready set
+unfoldable pub witness : Kept event ready set
 unfolding spared after pulsesIn spoken stepOf eventOf refusalOf wellFormedOf hand.wellOf alarm.wellOf countdown.wellOf lock.wellOf control.wellOf keptOf keptTime keptAlarm keptControl clearOf clearTimeOf powerOnOf poweredOf stoppedOf byteOf heardOf writeOf lock.writtenOf hand.storedOf alarm.storedOf countdown.storedOf control.storedOf ramStoredOf withByteOf readOf reads.readOf renewedOf shownOf registerOf pinOf times pulseOf hand.tickedOf alarm.rungOf countdown.countedOf advanceOf lengthOf changeOf
 witness =
     record {
@@ -215,10 +215,10 @@ unfolding numberOf sinceOf legalDateOf legalTimeOf dayOf secondOf firstDayOf day
 legal = record { number = refl; weekday = omega arith }
 
 -- the same run by steps, which read the same bytes
-ready-well : wellFormedOf ready ≡ true
+pub ready-well : wellFormedOf ready ≡ true
 ready-well = whole ready (steps-well powered (power-on-well started) (unlocking ++ pointing))
 
-pub stepped : Kept step ready set
+unfoldable pub stepped : Kept step ready set
 stepped = by-steps ready ready-well witness
 
 pub stepped-kept : KeepsTime 5097580 stepped

@@ -1,0 +1,86 @@
+-- A board can meet the hypotheses of promise 3: the run of the witness, on the bytes of its state. Assumes nothing.
+use mathlib.Core.Path.{_≡_, sym, subst}
+use mathlib.Core.Bool.{Bool, true, _&&_}
+use mathlib.Core.List.{List, [], _∷_, _++_}
+use Prim.Native.Nat.{ℕ, zero, suc, _<_}
+use native.Mathlib.Omega.{arith}
+use lib.Dec.{T, ltb, ltb→lt}
+use lib.ListN.{getD}
+use Rattle.fields.proofs.Below.{both-left, both-right}
+use Rattle.calendar.specs.declared.time.Time.{Time}
+use Rattle.calendar.specs.Repeat.{times}
+use Rattle.registers.specs.Fixed.{keptOf, keptTime, keptAlarm, keptControl, clearOf, clearTimeOf}
+use Rattle.registers.specs.Seven.{withByteOf}
+use Rattle.hand.specs.Trim.{lengthOf, changeOf}
+use Rattle.hand.specs.Hand as hand
+use Rattle.alarm.specs.Alarm as alarm
+use Rattle.countdown.specs.Countdown as countdown
+use Rattle.control.specs.Lock as lock
+use Rattle.control.specs.Control as control
+use Rattle.bus.specs.Bytes.{heardOf}
+use Rattle.events.specs.declared.event.Event.{Event}
+use Rattle.sd2068.specs.declared.clock.Clock.{Clock}
+use Rattle.sd2068.specs.Power.{poweredOf, powerOnOf}
+use Rattle.sd2068.specs.Writing.{ramStoredOf, writeOf}
+use Rattle.sd2068.specs.Pulse.{pulseOf}
+use Rattle.sd2068.specs.Transfer.{stoppedOf, byteOf}
+use Rattle.sd2068.specs.WellFormed.{wellFormedOf}
+use Rattle.sd2068.specs.Step.{eventOf, refusalOf, stepOf}
+use Rattle.sd2068.specs.Run.{byte, step, after}
+use Rattle.sd2068.specs.Kept.{setBy, Kept}
+use Rattle.sd2068.proofs.KeptLaws.{by-steps}
+use Rattle.state_bytes.specs.Encoded.{bytesOf}
+use Rattle.state_bytes.specs.Shapes.{Arrays}
+use Rattle.state_events.proofs.ArrayLaws.{power-on-arrays, steps-arrays}
+use Rattle.sd2068_abi.specs.Said.{EventBytes}
+use Rattle.sd2068_abi.proofs.BoundaryLaws.{encoded-accepted, encoded-decoded}
+use Rattle.promises.specs.Board.{OnBoard}
+use Rattle.promises.proofs.Witness.{started, powered, unlocking, pointing, ready, set, witness, ready-well, stepped}
+
+-- tests of bytes
+unfoldable bytes-small : List ℕ → Bool
+bytes-small [] = true
+bytes-small (b ∷ bs) = ltb b 256 && bytes-small bs
+
+each-small : (l : List ℕ) → T (bytes-small l) → (i : ℕ) → getD l i 0 < 256
+unfolding bytes-small
+each-small [] t i = omega arith
+each-small (b ∷ bs) t zero = ltb→lt b 256 (both-left (ltb b 256) (bytes-small bs) t)
+each-small (b ∷ bs) t (suc i) = each-small bs (both-right (ltb b 256) (bytes-small bs) t) i
+
+unfoldable events-small : List Event → Bool
+events-small [] = true
+events-small (e ∷ es) = ltb (e .byte) 256 && events-small es
+
+event-bytes : (es : List Event) → T (events-small es) → EventBytes es
+unfolding events-small
+event-bytes [] t = EventBytes.none
+event-bytes (e ∷ es) t =
+    let first = ltb (e .byte) 256 in
+    EventBytes.more (ltb→lt (e .byte) 256 (both-left first (events-small es) t)) (event-bytes es (both-right first (events-small es) t))
+
+-- a run by steps from a well-formed state is a run on its bytes
+abbrev callsOf : {c : Clock} {t : Time} → Kept step c t → List Event
+callsOf r = (setBy (r .setting) ++ r .traffic) ++ (byte 0x65 ∷ (r .reading .reads ++ (r .reading .last ∷ [])))
+
+pub lent-run :
+    (c : Clock) → Arrays c → wellFormedOf c ≡ true → ((i : ℕ) → getD (bytesOf c) i 0 < 256) → {t : Time} (r : Kept step c t)
+    → EventBytes ((setBy (r .setting) ++ r .traffic) ++ (byte 0x65 ∷ (r .reading .reads ++ (r .reading .last ∷ [])))) → OnBoard t
+lent-run c a w each {t} r bytes =
+    let moved = subst (λ (d : Clock). (x : Kept step d t) × EventBytes (callsOf x)) (sym (encoded-decoded c a w)) (r, bytes) in
+    record { state = bytesOf c; each = each; accepted = encoded-accepted c a w; run = moved .0; bytes = moved .1 }
+
+-- the witness on a board
+ready-arrays : Arrays ready
+ready-arrays = steps-arrays powered (power-on-arrays started) (unlocking ++ pointing)
+
+ready-small : (i : ℕ) → getD (bytesOf ready) i 0 < 256
+unfolding bytesOf bytes-small after stepOf eventOf refusalOf wellFormedOf hand.wellOf alarm.wellOf countdown.wellOf lock.wellOf control.wellOf keptOf keptTime keptAlarm keptControl clearOf clearTimeOf powerOnOf poweredOf stoppedOf byteOf heardOf writeOf lock.writtenOf hand.storedOf alarm.storedOf countdown.storedOf control.storedOf ramStoredOf withByteOf times pulseOf hand.tickedOf alarm.rungOf countdown.countedOf lengthOf changeOf lock.ctr1Of lock.ctr2Of
+ready-small = each-small (bytesOf ready) tt
+
+stepped-bytes : EventBytes (callsOf stepped)
+unfolding stepped by-steps witness events-small
+stepped-bytes = event-bytes (callsOf stepped) tt
+
+pub boarded : OnBoard set
+boarded = lent-run ready ready-arrays ready-well ready-small stepped stepped-bytes
