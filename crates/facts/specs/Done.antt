@@ -75,12 +75,12 @@ live c = bytesOf (c .hand .time)
 abbrev pub Clears : Clock → Transfer → Type 0
 Clears c t = (arstOf (c .control .ctr3) ≡ true) × (t .marked ≡ true)
 
--- the kinds of a read
+-- the kinds of a read, and whether the master acknowledges the byte
 pub data ReadKind : ℕ → Bool → Type 0 where
   withAck : ReadKind 3 true
   withNak : ReadKind 4 false
 
--- an event of byte b or n pulses that is not refused: its kind, its deed on a state, and what it answers and leaves
+-- an event of byte b or n pulses that is not refused: its kind (0 START, 1 STOP, 2 a byte, 3 and 4 a read, 5 pulses, 6 power loss), its deed on a state, and what it answers and leaves
 pub data Done (c : Clock) (kind b n : ℕ) : Deed → Answered → Type 0 where
   opened : kind ≡ 0 → Shut c → Done c kind b n deed.Opened (quietOf (led c (at c) Address (record { age = 0; marked = false })))
   repeated : {m : Mode} {t : Transfer} → kind ≡ 0 → In c m t → Done c kind b n deed.Repeated (quietOf (led c (at c) Address t))
