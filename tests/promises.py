@@ -37,9 +37,6 @@ def faults(page):
         yield "%s has no theorem %s" % (FILE, name)
     for name in sorted(theorems(FILE) - named(page)):
         yield "%s is promised in %s and not on the page" % (name, FILE)
-    for edit in sorted(set(EDITS.findall(page))):
-        if not Path(edit).is_file():
-            yield "%s is not there" % edit
     for path in sorted(set(re.findall(r"`((?:crates|docs|tests)/[^`*]+)`", page))):
         if not Path(path).exists():
             yield "%s is not there" % path
