@@ -1,5 +1,5 @@
 pub mod AgeLaws
-pub mod WellLaws
 pub mod PointerLaws
+pub mod WellLaws
 pub mod UnheardLaws
 pub mod Settled

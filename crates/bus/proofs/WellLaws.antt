@@ -13,9 +13,10 @@ use Rattle.bus.specs.declared.phase.Phase.the-variants.{Closed, Open}
 use Rattle.bus.specs.declared.phase.Bus.{Bus}
 use Rattle.bus.specs.declared.bytes.Effect.the-variants.{None}
 use Rattle.bus.specs.declared.bytes.Heard.{Heard}
-use Rattle.bus.specs.Phase.{nextOf, startedOf, closedBus, olderOf, ageIn, wellOf}
+use Rattle.bus.specs.Phase.{startedOf, closedBus, olderOf, ageIn, wellOf}
 use Rattle.bus.specs.Bytes.{deafOf, addressedOf, heardIn, heardOf}
 use Rattle.bus.specs.Reads.{readIn, readOf}
+use Rattle.bus.proofs.PointerLaws.{next-small}
 use Rattle.fields.proofs.FieldLaws.{and-left, and-right}
 use Rattle.fields.proofs.Picked.{picked}
 
@@ -35,10 +36,6 @@ parts b h = parts-in (b .phase) (b .pointer) h
 pub whole : {b : Bus} → Well b → wellOf b ≡ true
 whole (shut {p} h) = le-leb p 31 h
 whole (opened {p} {m} {t} h a) = simp (le-leb p 31 h, le-leb (t .age) 16383 a)
-
-next-small : (p : ℕ) → (b : Bool) → ltb p 0x1F ≡ b → nextOf p ≤ 31
-next-small p true e = let h = ltb-true p 0x1F e in rw e (omega arith)
-next-small p false e = rw e (omega arith)
 
 pub closed-well : Well closedBus
 closed-well = shut {p = 0} (omega arith)
@@ -70,7 +67,7 @@ module _ (p : ℕ) (t : Transfer) (h : p ≤ 31) (a : t .age ≤ 16383) where
   heard-in : (m : Mode) (b : ℕ) → Well (heardIn m p t b .bus)
   heard-in Address b = addressed-by b
   heard-in Pointer b = pointed-by b (ltb b 0x20) refl
-  heard-in Writing b = opened (next-small p (ltb p 0x1F) refl) a
+  heard-in Writing b = opened (next-small p) a
   heard-in Reading b = opened h a
   heard-in Deaf b = opened h a
 
@@ -78,7 +75,7 @@ module _ (p : ℕ) (t : Transfer) (h : p ≤ 31) (a : t .age ≤ 16383) where
   read-in Address ack = opened h a
   read-in Pointer ack = opened h a
   read-in Writing ack = opened h a
-  read-in Reading ack = opened (next-small p (ltb p 0x1F) refl) a
+  read-in Reading ack = opened (next-small p) a
   read-in Deaf ack = opened h a
 
 pub heard-well : {bus : Bus} → Well bus → (b : ℕ) → Well (heardOf bus b .bus)
