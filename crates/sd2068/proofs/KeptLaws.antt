@@ -18,8 +18,8 @@ use Rattle.sd2068.specs.WellFormed.{wellFormedOf}
 use Rattle.sd2068.proofs.WellLaws.{Well, parts, whole, step-well, steps-well}
 use Rattle.sd2068.specs.Run.{Outcome, Machine, byte, step, event, after, pulsesIn, readBy, readsOf}
 use Rattle.sd2068.specs.Kept.{Spares, Spares.none as none, Spares.more as more, Setting, setBy, pulsesSince, Reading, Kept, shownBy, ReadsBack, KeepsTime}
-use Rattle.sd2068.proofs.SettingLaws.{set-hand}
 use Rattle.sd2068.proofs.TrafficLaws.{traffic-hand}
+use Rattle.sd2068.proofs.SettingLaws.{set-hand}
 use Rattle.sd2068.proofs.ReadBackLaws.{read-acknowledged, read-shown}
 
 module _ (c : Clock) (t : Time) (k : ℕ) (l : Legal t k) (s : Setting c t) (es : List Event) (spares : Spares event (after event c (setBy s)) es) where

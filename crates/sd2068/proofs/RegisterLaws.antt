@@ -15,7 +15,7 @@ module _ (c : Clock) where
   unfolding registersTo
   registers-length zero = refl
   registers-length (suc n) =
-      length-append (registersTo c n) (registerOf c n ∷ []) ∙ ap (λ (k : ℕ). k + 1) (registers-length n) ∙ add-one n
+      length-append (registersTo c n) _ ∙ ap (λ (k : ℕ). k + 1) (registers-length n) ∙ add-one n
 
   pub registers-listed : (n i : ℕ) → i < n → getD (registersTo c n) i 0 ≡ registerOf c i
   unfolding registersTo
