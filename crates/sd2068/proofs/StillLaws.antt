@@ -49,17 +49,17 @@ abbrev AsOld : ℕ → Phase → Type 0
 AsOld a Closed = Unit {0}
 AsOld a (Open m t) = a ≤ t .age
 
-older : (a p : ℕ) (f : Phase) → AsOld a f → AsOld (a + 1) (olderIn f p 1 .phase)
-older a p Closed h = tt
-older a p (Open m t) h = picked (λ (b : Bus). AsOld (a + 1) (b .phase)) (ltb (t .age + 1) 16384) (omega arith) tt
+as-old : (a p : ℕ) (f : Phase) → AsOld a f → AsOld (a + 1) (olderIn f p 1 .phase)
+as-old a p Closed h = tt
+as-old a p (Open m t) h = picked (λ (b : Bus). AsOld (a + 1) (b .phase)) (ltb (t .age + 1) 16384) (omega arith) tt
 
-older-many : (a n : ℕ) (b : Bus) → AsOld a (b .phase) → AsOld (a + n) (times (λ (x : Bus). olderOf x 1) n b .phase)
+as-old-many : (a n : ℕ) (b : Bus) → AsOld a (b .phase) → AsOld (a + n) (times (λ (x : Bus). olderOf x 1) n b .phase)
 unfolding times
-older-many a zero b h = subst (λ (x : ℕ). AsOld x (b .phase)) (sym (add-zero a)) h
-older-many a (suc n) b h =
+as-old-many a zero b h = subst (λ (x : ℕ). AsOld x (b .phase)) (sym (add-zero a)) h
+as-old-many a (suc n) b h =
     let x = times (λ (x : Bus). olderOf x 1) n b in
     let sum : a + n + 1 ≡ a + suc n = omega arith in
-    subst (λ (k : ℕ). AsOld k (olderOf x 1 .phase)) sum (older (a + n) (x .pointer) (x .phase) (older-many a n b h))
+    subst (λ (k : ℕ). AsOld k (olderOf x 1 .phase)) sum (as-old (a + n) (x .pointer) (x .phase) (as-old-many a n b h))
 
 -- the pointer never stays
 steps : (p : ℕ) (b : Bool) → ltb p 0x1F ≡ b → cond b (p + 1) 0x00 ≡ p → ⊥
@@ -96,7 +96,7 @@ module _ (c : Clock) (p : ℕ) (m : Mode) (t : Transfer) (bus : c .bus ≡ at p 
   pulses-move : 0 < n → left 5 ≡ c → ⊥
   unfolding eventOf
   pulses-move some e =
-      let old = older-many (t .age) n (at p m t) (omega arith) in
+      let old = as-old-many (t .age) n (at p m t) (omega arith) in
       let same = sym (ap (times (λ (x : Bus). olderOf x 1) n) bus) ∙ sym (pulses-bus n c) ∙ ap (λ (x : Clock). x .bus) e ∙ bus in
       let late : t .age + n ≤ t .age = subst (λ (x : Bus). AsOld (t .age + n) (x .phase)) same old in
       omega (arith, late)
