@@ -22,9 +22,10 @@ def named(text):
 
 
 def by_law(edit):
-    """Whether an edit changes a definition, and a law refuses it rather than a function's own proof."""
+    """Whether an edit changes a definition and its code, or a statement, and a law refuses it and no function's proof."""
     text = Path(edit).read_text(encoding="utf-8")
-    return "\nfile: specs/" in text and not re.search(r"^# Refused in: .*/Proof\.antt,", text, re.MULTILINE)
+    met = "\nfile: src/" in text or edit.startswith("crates/promises/")
+    return met and "\nfile: specs/" in text and not re.search(r"^# Refused in: .*/Proof\.antt,", text, re.MULTILINE)
 
 
 def wrong(promise):

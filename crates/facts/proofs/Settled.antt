@@ -6,8 +6,15 @@ use Rattle.facts.proofs.deeds.deed_of.Reads as deed-reads
 use Rattle.facts.proofs.moments.moment_of.Kinds as moment-kinds
 use Rattle.facts.proofs.moments.moment_of.Reads as moment-reads
 
-pub deed-settles : Settles 0 deed-kinds.ps deed-kinds.r deed-reads.Post
+-- what is said of each, for crates above
+abbrev pub DeedSettles : Type 0
+DeedSettles = Settles 0 deed-kinds.ps deed-kinds.r deed-reads.Post
+
+abbrev pub MomentSettles : Type 0
+MomentSettles = Settles 0 moment-kinds.ps moment-kinds.r moment-reads.Post
+
+pub deed-settles : DeedSettles
 deed-settles κs a e f x y = settled (λ z. z) (λ z. z) (λ z. refl)
 
-pub moment-settles : Settles 0 moment-kinds.ps moment-kinds.r moment-reads.Post
+pub moment-settles : MomentSettles
 moment-settles κs a e f x y = settled (λ z. z) (λ z. z) (λ z. refl)

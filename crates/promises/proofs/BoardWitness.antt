@@ -1,12 +1,13 @@
 -- A board can meet the hypotheses of promise 3: the run of the witness, on the bytes of its state. Assumes nothing.
-use mathlib.Core.Path.{_≡_, sym, subst}
+use mathlib.Core.Path.{_≡_, refl}
 use mathlib.Core.Bool.{Bool, true, _&&_}
 use mathlib.Core.List.{List, [], _∷_, _++_}
-use Prim.Native.Nat.{ℕ, zero, suc, _<_}
+use Prim.Native.Nat.{ℕ, _<_}
 use native.Mathlib.Omega.{arith}
-use lib.Dec.{T, ltb, ltb→lt}
+use lib.Dec.{ltb}
 use lib.ListN.{getD}
-use Rattle.fields.proofs.Below.{both-left, both-right}
+use borrow.Author.Tests.{ltb-true}
+use Rattle.fields.proofs.FieldLaws.{and-left, and-right}
 use Rattle.calendar.specs.declared.time.Time.{Time}
 use Rattle.calendar.specs.Repeat.{times}
 use Rattle.registers.specs.Fixed.{keptOf, keptTime, keptAlarm, keptControl, clearOf, clearTimeOf}
@@ -27,60 +28,64 @@ use Rattle.sd2068.specs.Transfer.{stoppedOf, byteOf}
 use Rattle.sd2068.specs.WellFormed.{wellFormedOf}
 use Rattle.sd2068.specs.Step.{eventOf, refusalOf, stepOf}
 use Rattle.sd2068.specs.Run.{byte, step, after}
-use Rattle.sd2068.specs.Kept.{setBy, Kept}
+use Rattle.sd2068.specs.Kept.{Kept, untilAddress, readingOf}
 use Rattle.sd2068.proofs.KeptLaws.{by-steps}
 use Rattle.state_bytes.specs.Encoded.{bytesOf}
 use Rattle.state_bytes.specs.Shapes.{Arrays}
 use Rattle.state_events.proofs.ArrayLaws.{power-on-arrays, steps-arrays}
 use Rattle.sd2068_abi.specs.Said.{EventBytes}
+use Rattle.sd2068_abi.proofs.ByteLaws.{at, below, tested}
 use Rattle.sd2068_abi.proofs.BoundaryLaws.{encoded-accepted, encoded-decoded}
 use Rattle.promises.specs.Board.{OnBoard}
 use Rattle.promises.proofs.Witness.{started, powered, unlocking, pointing, ready, set, witness, ready-well, stepped}
 
--- tests of bytes
-unfoldable bytes-small : List ℕ → Bool
-bytes-small [] = true
-bytes-small (b ∷ bs) = ltb b 256 && bytes-small bs
+-- a run by steps from a well-formed state is one by calls on its bytes
+pub lent-run :
+    (c : Clock) → Arrays c → wellFormedOf c ≡ true → ((i : ℕ) → getD (bytesOf c) i 0 < 256) → {t : Time} (r : Kept step c t)
+    → EventBytes (untilAddress r ++ (byte 0x65 ∷ readingOf r)) → OnBoard t
+unfolding after
+lent-run c a w each r bytes =
+    record {
+      begun = c;
+      well = w;
+      run = r;
+      made = [];
+      calls = untilAddress r;
+      events = refl;
+      state = bytesOf c;
+      each = each;
+      accepted = encoded-accepted c a w;
+      stands = encoded-decoded c a w;
+      bytes = bytes;
+    }
 
-each-small : (l : List ℕ) → T (bytes-small l) → (i : ℕ) → getD l i 0 < 256
-unfolding bytes-small
-each-small [] t i = omega arith
-each-small (b ∷ bs) t zero = ltb→lt b 256 (both-left (ltb b 256) (bytes-small bs) t)
-each-small (b ∷ bs) t (suc i) = each-small bs (both-right (ltb b 256) (bytes-small bs) t) i
-
+-- events whose bytes are, by a test that antt computes
 unfoldable events-small : List Event → Bool
 events-small [] = true
 events-small (e ∷ es) = ltb (e .byte) 256 && events-small es
 
-event-bytes : (es : List Event) → T (events-small es) → EventBytes es
+event-bytes : (es : List Event) → events-small es ≡ true → EventBytes es
 unfolding events-small
 event-bytes [] t = EventBytes.none
 event-bytes (e ∷ es) t =
     let first = ltb (e .byte) 256 in
-    EventBytes.more (ltb→lt (e .byte) 256 (both-left first (events-small es) t)) (event-bytes es (both-right first (events-small es) t))
-
--- a run by steps from a well-formed state is a run on its bytes
-abbrev callsOf : {c : Clock} {t : Time} → Kept step c t → List Event
-callsOf r = (setBy (r .setting) ++ r .traffic) ++ (byte 0x65 ∷ (r .reading .reads ++ (r .reading .last ∷ [])))
-
-pub lent-run :
-    (c : Clock) → Arrays c → wellFormedOf c ≡ true → ((i : ℕ) → getD (bytesOf c) i 0 < 256) → {t : Time} (r : Kept step c t)
-    → EventBytes ((setBy (r .setting) ++ r .traffic) ++ (byte 0x65 ∷ (r .reading .reads ++ (r .reading .last ∷ [])))) → OnBoard t
-lent-run c a w each {t} r bytes =
-    let moved = subst (λ (d : Clock). (x : Kept step d t) × EventBytes (callsOf x)) (sym (encoded-decoded c a w)) (r, bytes) in
-    record { state = bytesOf c; each = each; accepted = encoded-accepted c a w; run = moved .0; bytes = moved .1 }
+    EventBytes.more (ltb-true (e .byte) 256 (and-left first (events-small es) t)) (event-bytes es (and-right first (events-small es) t))
 
 -- the witness on a board
 ready-arrays : Arrays ready
 ready-arrays = steps-arrays powered (power-on-arrays started) (unlocking ++ pointing)
 
 ready-small : (i : ℕ) → getD (bytesOf ready) i 0 < 256
-unfolding bytesOf bytes-small after stepOf eventOf refusalOf wellFormedOf hand.wellOf alarm.wellOf countdown.wellOf lock.wellOf control.wellOf keptOf keptTime keptAlarm keptControl clearOf clearTimeOf powerOnOf poweredOf stoppedOf byteOf heardOf writeOf lock.writtenOf hand.storedOf alarm.storedOf countdown.storedOf control.storedOf ramStoredOf withByteOf times pulseOf hand.tickedOf alarm.rungOf countdown.countedOf lengthOf changeOf lock.ctr1Of lock.ctr2Of
-ready-small = each-small (bytesOf ready) tt
+unfolding bytesOf below after stepOf eventOf refusalOf wellFormedOf hand.wellOf alarm.wellOf countdown.wellOf lock.wellOf control.wellOf keptOf keptTime keptAlarm keptControl clearOf clearTimeOf powerOnOf poweredOf stoppedOf byteOf heardOf writeOf lock.writtenOf hand.storedOf alarm.storedOf countdown.storedOf control.storedOf ramStoredOf withByteOf times pulseOf hand.tickedOf alarm.rungOf countdown.countedOf lengthOf changeOf lock.ctr1Of lock.ctr2Of
+ready-small i = at (tested (bytesOf ready) refl) i 0 (omega arith)
 
-stepped-bytes : EventBytes (callsOf stepped)
+stepped-bytes : EventBytes (untilAddress stepped ++ (byte 0x65 ∷ readingOf stepped))
 unfolding stepped by-steps witness events-small
-stepped-bytes = event-bytes (callsOf stepped) tt
+stepped-bytes = event-bytes (untilAddress stepped ++ (byte 0x65 ∷ readingOf stepped)) refl
 
 pub boarded : OnBoard set
 boarded = lent-run ready ready-arrays ready-well ready-small stepped stepped-bytes
+
+pub boarded-bytes : boarded .state ≡ bytesOf ready
+unfolding boarded lent-run
+boarded-bytes = refl

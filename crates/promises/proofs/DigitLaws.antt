@@ -16,6 +16,7 @@ use Rattle.events.specs.declared.answer.Answer.the-variants.{Byte}
 use Rattle.events.specs.Answer.{digitOf, textOf}
 use Rattle.sd2068.specs.Run.{readBy}
 use Rattle.sd2068_abi.specs.Said.{answerIn, byteIn, textIn, saidIn, readsIn}
+use Rattle.sd2068_abi.proofs.ByteLaws.{Bytes}
 use Rattle.promises.specs.Ledger.{byteRead}
 use Rattle.promises.specs.Board.{bytesIn}
 use Rattle.promises.proofs.LedgerLaws.{hours-small, read-byte}
@@ -44,11 +45,6 @@ module _ (x b : ℕ) (small : b < 256) where
 text-byte : (n b : ℕ) → b < 256 → textIn n ≡ textOf (Byte b) → byteIn n ≡ b
 text-byte n b small e = byte-by (byteIn n) b small (eqb (answerIn n) 0) (eqb (answerIn n) 1) (eqb (answerIn n) 2) e (omega arith)
 
--- every one of these is a byte
-pub data Small : List ℕ → Type 0 where
-  none : Small []
-  more : {b : ℕ} {bs : List ℕ} → b < 256 → Small bs → Small (b ∷ bs)
-
 abbrev texts : List ℕ → List (List ℕ)
 texts bs = map (λ b. textOf (Byte b)) bs
 
@@ -62,19 +58,19 @@ nothing (b ∷ bs) e = absurd (true≢false (ap none-left e))
 
 -- calls whose texts are those of bytes tell these bytes
 one-read :
-    (n : ℕ) (ns bs : List ℕ) (rest : List (List ℕ)) (told : List ℕ) → Small bs → textIn n ∷ rest ≡ texts bs
-    → ((cs : List ℕ) → Small cs → rest ≡ texts cs → told ≡ cs) → byteIn n ∷ told ≡ bs
+    (n : ℕ) (ns bs : List ℕ) (rest : List (List ℕ)) (told : List ℕ) → Bytes bs → textIn n ∷ rest ≡ texts bs
+    → ((cs : List ℕ) → Bytes cs → rest ≡ texts cs → told ≡ cs) → byteIn n ∷ told ≡ bs
 one-read n ns [] rest told small e go = absurd (true≢false (sym (ap none-left e)))
-one-read n ns (b ∷ bs) rest told (Small.more h small) e go =
+one-read n ns (b ∷ bs) rest told (Bytes.more h small) e go =
     λ i. text-byte n b h (ap (λ (l : List (List ℕ)). getD l 0 []) e) i ∷ go bs small (ap (drop 1) e) i
 
 by-read :
-    (read : Bool) (n : ℕ) (ns bs : List ℕ) (rest : List (List ℕ)) (told : List ℕ) → Small bs → cond read (textIn n ∷ rest) rest ≡ texts bs
-    → ((cs : List ℕ) → Small cs → rest ≡ texts cs → told ≡ cs) → cond read (byteIn n ∷ told) told ≡ bs
+    (read : Bool) (n : ℕ) (ns bs : List ℕ) (rest : List (List ℕ)) (told : List ℕ) → Bytes bs → cond read (textIn n ∷ rest) rest ≡ texts bs
+    → ((cs : List ℕ) → Bytes cs → rest ≡ texts cs → told ≡ cs) → cond read (byteIn n ∷ told) told ≡ bs
 by-read true n ns bs rest told small e go = one-read n ns bs rest told small e go
 by-read false n ns bs rest told small e go = go bs small e
 
-pub reads-bytes : (es : List Event) (ns bs : List ℕ) → Small bs → readsIn es (map saidIn ns) ≡ texts bs → bytesIn es ns ≡ bs
+pub reads-bytes : (es : List Event) (ns bs : List ℕ) → Bytes bs → readsIn es (map saidIn ns) ≡ texts bs → bytesIn es ns ≡ bs
 unfolding readsIn bytesIn
 reads-bytes [] ns bs small e = nothing bs e
 reads-bytes (q ∷ es) [] bs small e = nothing bs e
@@ -82,12 +78,12 @@ reads-bytes (q ∷ es) (n ∷ ns) bs small e =
     by-read (readBy q) n ns bs (readsIn es (map saidIn ns)) (bytesIn es ns) small e (λ cs x y. reads-bytes es ns cs x y)
 
 -- the bytes of a legal time
-pub time-small : (t : Time) (k : ℕ) → Legal t k → Small (bytesOf t)
+pub time-small : (t : Time) (k : ℕ) → Legal t k → Bytes (bytesOf t)
 time-small t k l =
     let m = number-moment t k (l .number) in
-    Small.more {b = t .seconds} (omega (arith, m .clock .seconds .tens))
-    (Small.more {b = t .minutes} (omega (arith, m .clock .minutes .tens))
-    (Small.more (hours-small (t .hours) (m .clock .hours))
-    (Small.more {b = t .weekday} (omega (arith, l .weekday))
-    (Small.more {b = t .day} (omega (arith, m .date .day .tens))
-    (Small.more {b = t .month} (omega (arith, m .date .month .tens)) (Small.more {b = t .year} (omega (arith, m .date .year .tens)) Small.none))))))
+    Bytes.more {x = t .seconds} (omega (arith, m .clock .seconds .tens))
+    (Bytes.more {x = t .minutes} (omega (arith, m .clock .minutes .tens))
+    (Bytes.more (hours-small (t .hours) (m .clock .hours))
+    (Bytes.more {x = t .weekday} (omega (arith, l .weekday))
+    (Bytes.more {x = t .day} (omega (arith, m .date .day .tens))
+    (Bytes.more {x = t .month} (omega (arith, m .date .month .tens)) (Bytes.more {x = t .year} (omega (arith, m .date .year .tens)) Bytes.none))))))

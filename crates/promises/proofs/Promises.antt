@@ -30,7 +30,7 @@ use Rattle.sd2068.specs.Step.{Told, toldOf, eventOf, stepOf}
 use Rattle.sd2068.specs.Rows.{StepDue, PowerDue}
 use Rattle.sd2068.specs.Run as Run
 use Rattle.sd2068.specs.Run.{nak, step, event, after, pulsesIn, readBy, byteBy, spoken}
-use Rattle.sd2068.specs.Kept.{Unlocked, keptTimeOf, Pointed, Setting, ageOf, Pointing, setBy, pulsesSince, Kept, readBack, shownBy, ReadsBack, KeepsTime}
+use Rattle.sd2068.specs.Kept.{Unlocked, keptTimeOf, Pointed, Setting, ageOf, Pointing, pulsesSince, Kept, untilAddress, readingOf, readBack, shownBy, ReadsBack, KeepsTime}
 use Rattle.sd2068.proofs.WellLaws.{parts, whole, power-on-well, steps-well}
 use Rattle.sd2068.proofs.RowLaws as rows
 use Rattle.sd2068.proofs.ListedLaws.{well-listed, listed-well}
@@ -52,6 +52,7 @@ use Rattle.facts.specs.Moments.{momentOf, pulseMoment}
 use Rattle.facts.proofs.DeedLaws as deeds
 use Rattle.facts.proofs.RowLaws as rows-of-deeds
 use Rattle.facts.proofs.MomentLaws as moments
+use Rattle.facts.proofs.Settled as told-deeds
 use Rattle.state_bytes.specs.Decoded.{clockOf}
 use Rattle.state_bytes.specs.Encoded.{bytesOf}
 use Rattle.state_bytes.specs.Shapes.{Arrays}
@@ -59,6 +60,7 @@ use Rattle.sd2068_abi.specs.Abi as abi
 use Rattle.sd2068_abi.specs.Abi.{lent, acceptedOf, powerOf, afterIn, toldIn, lentRun}
 use Rattle.sd2068_abi.specs.Said.{refusalIn, runRefusalIn, runIndexIn, Said, saidIn, saidOf, saidBy, EventBytes}
 use Rattle.sd2068_abi.proofs.BoundaryLaws as board
+use Rattle.sd2068_abi.proofs.Settled as boards
 use Rattle.promises.specs.Fixed.{fixed}
 use Rattle.promises.specs.Registers.{bit, viewOf, Looks, State, lockOpen}
 use Rattle.promises.specs.Seen.{Seen, Shows, startSeen, stopSeen, byteSeen, readSeen, pulsesSeen, lossSeen, poweredView, startAt, eventSeen}
@@ -155,6 +157,10 @@ module _ (s : List ℕ) (each : (i : ℕ) → getD s i 0 < 256) (accepted : acce
   step-accepted = board.step-accepted s each accepted
 
 module _ (s : List ℕ) (kind byte count : ℕ) where
+  -- bytes that are no state's a step refuses with 1, and no others
+  pub no-state-refused : (refusalIn (abi.stepOf s kind byte count .told) ≡ 1) ↔ (acceptedOf s ≡ false)
+  no-state-refused = board.no-state-refused s kind byte count
+
   -- a step that is refused leaves every byte
   pub refused-stays : ((i : ℕ) → getD s i 0 < 256) → (refusalIn (abi.stepOf s kind byte count .told) ≡ 0 → ⊥) → abi.stepOf s kind byte count .state ≡ s
   refused-stays each = board.refused-stays s each kind byte count
@@ -382,14 +388,30 @@ pub scripted-kept : KeepsTimeIn 219964500 scripted (runOf file.file file.out .ou
 unfolding scripted
 scripted-kept = file.scripted-kept
 
--- a run by steps from a well-formed state is one on its bytes, and the witness is one
+-- a run by steps from a well-formed state is one by calls on its bytes
 pub lent-run :
     (c : Clock) → Arrays c → wellFormedOf c ≡ true → ((i : ℕ) → getD (bytesOf c) i 0 < 256) → {t : Time} (r : Kept step c t)
-    → EventBytes ((setBy (r .setting) ++ r .traffic) ++ (Run.byte 0x65 ∷ (r .reading .reads ++ (r .reading .last ∷ [])))) → OnBoard t
+    → EventBytes (untilAddress r ++ (Run.byte 0x65 ∷ readingOf r)) → OnBoard t
 lent-run = on-a-board.lent-run
+
+-- such bytes are left by calls and by the run of a file
+pub calls-stand :
+    (s : List ℕ) → ((i : ℕ) → getD s i 0 < 256) → acceptedOf s ≡ true → (es : List Event) → clockOf (afterIn s es) ≡ after step (clockOf s) es
+calls-stand = on-boards.calls-stand
+
+pub run-stands :
+    (file out s : List ℕ) → length s ≡ 61 → runOf file out .refusal ≡ 0
+    → clockOf (abi.runOf file out s .state) ≡ after step (powerOnOf (startsOf file) .state) (listedOf file)
+run-stands = on-boards.run-stands
+
+-- and the witness is one, on the bytes of its state
 
 pub boarded : OnBoard run.set
 boarded = on-a-board.boarded
+
+pub boarded-bytes : boarded .state ≡ bytesOf run.ready
+unfolding boarded
+boarded-bytes = on-a-board.boarded-bytes
 
 -- The ledger: two readings that show the same eight digits, in one hour mode, were read in the same minute of a year.
 pub one-id :
@@ -466,12 +488,36 @@ module _ (c : Clock) (w : wellFormedOf c ≡ true) where
 pub marked-cases : Marked
 marked-cases = cases.marked
 
--- The contracts of the step, the power-on and the run leave one result and no other.
+-- The contracts of the public functions that the promises speak of leave one result and no other, those of the boundary one for every lent byte too.
 pub step-settles : chip.StepSettles
 step-settles = chip.step-settles
 
 pub power-on-settles : chip.PowerOnSettles
 power-on-settles = chip.power-on-settles
 
+pub registers-settle : chip.RegistersSettles
+registers-settle = chip.registers-settles
+
 pub run-settles : scripts.RunSettles
 run-settles = scripts.run-settles
+
+pub board-step-settles : boards.StepSettles
+board-step-settles = boards.step-settles
+
+pub board-power-settles : boards.PowerSettles
+board-power-settles = boards.power-settles
+
+pub board-run-settles : boards.RunSettles
+board-run-settles = boards.run-settles
+
+pub pin-settles : boards.PinSettles
+pin-settles = boards.pin-settles
+
+pub register-settles : boards.RegisterSettles
+register-settles = boards.register-settles
+
+pub deed-settles : told-deeds.DeedSettles
+deed-settles = told-deeds.deed-settles
+
+pub moment-settles : told-deeds.MomentSettles
+moment-settles = told-deeds.moment-settles

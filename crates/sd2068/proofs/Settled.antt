@@ -50,7 +50,10 @@ started-back p = record { refusal = refusal-back (p .refusal); clock = p .state 
 pub started-again : (x : Started) → started-back (started x) ≡ x
 started-again x = λ i. record { refusal = refusal-again (x .refusal) i; clock = x .clock }
 
--- what is said of a power-on and of a step, for crates above
+-- what is said of all registers, of a power-on and of a step, for crates above
+abbrev pub RegistersSettles : Type 0
+RegistersSettles = Settles 0 registers-kinds.ps registers-kinds.r registers-reads.Post
+
 abbrev pub PowerOnSettles : Type 0
 PowerOnSettles = Settles 1 power-on-kinds.ps power-on-kinds.r power-on-reads.Post
 
@@ -63,7 +66,7 @@ power-on-settles κs a e f x y = settled started started-back started-again
 pub register-settles : Settles 0 register-kinds.ps register-kinds.r register-reads.Post
 register-settles κs a e f x y = settled (λ z. z) (λ z. z) (λ z. refl)
 
-pub registers-settles : Settles 0 registers-kinds.ps registers-kinds.r registers-reads.Post
+pub registers-settles : RegistersSettles
 registers-settles κs a e f x y = settled (λ z. z) (λ z. z) (λ z. refl)
 
 pub pin-settles : Settles 0 pin-kinds.ps pin-kinds.r pin-reads.Post

@@ -114,12 +114,19 @@ pub record Kept (m : Machine) (c : Clock) (t : Time) : Type 0 where
   pub spares : Spares m (after m c (setBy setting)) traffic
   pub reading : Reading (after m (after m c (setBy setting)) traffic)
 
+-- what comes before its 65h, and the reads after it
+abbrev pub untilAddress : {m : Machine} {c : Clock} {t : Time} → Kept m c t → List Event
+untilAddress k = setBy (k .setting) ++ k .traffic
+
+abbrev pub readingOf : {m : Machine} {c : Clock} {t : Time} → Kept m c t → List Event
+readingOf k = k .reading .reads ++ (k .reading .last ∷ [])
+
 -- what its 65h and its seven reads answer
 abbrev pub addressed : {m : Machine} {c : Clock} {t : Time} → Kept m c t → Outcome
 addressed {m} {c} k = m (after m (after m c (setBy (k .setting))) (k .traffic)) (byte 0x65)
 
 abbrev pub readBack : {m : Machine} {c : Clock} {t : Time} → Kept m c t → List (List ℕ)
-readBack {m} k = readsOf m (addressed k .state) (k .reading .reads ++ (k .reading .last ∷ []))
+readBack {m} k = readsOf m (addressed k .state) (readingOf k)
 
 -- two characters for each byte of a time
 abbrev pub shownBy : Time → List (List ℕ)

@@ -264,6 +264,10 @@ module _ (s : List ℕ) where
     step-one : acceptedOf s ≡ false → refusalIn (stepOf s kind byte count .told) ≡ 1
     step-one no-state = ap (λ (l : Lent). refusalIn (l .told)) (step-alone no-state)
 
+    -- a step is refused with 1 exactly if the bytes are no state's
+    pub no-state-refused : (refusalIn (stepOf s kind byte count .told) ≡ 1) ↔ (acceptedOf s ≡ false)
+    no-state-refused = (step-not, step-one)
+
     pub pin-refused : (refusalIn (pinOf s) ≡ 1) ↔ (refusalIn (stepOf s kind byte count .told) ≡ 1)
     unfolding pinOf
     pin-refused = (λ one. step-one (look-not Quiet one), λ one. ap refusalIn (look-alone Quiet (step-not one)))

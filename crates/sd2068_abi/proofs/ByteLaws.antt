@@ -65,7 +65,7 @@ pub data Bytes : List ℕ → Type 0 where
   none : Bytes []
   more : {x : ℕ} {l : List ℕ} → Byte x → Bytes l → Bytes (x ∷ l)
 
-at : {l : List ℕ} → Bytes l → (i d : ℕ) → Byte d → Byte (getD l i d)
+pub at : {l : List ℕ} → Bytes l → (i d : ℕ) → Byte d → Byte (getD l i d)
 at none i d h = h
 at (more b bs) zero d h = b
 at (more b bs) (suc i) d h = at bs i d h
@@ -76,11 +76,11 @@ put (more x xs) zero b h = more h xs
 put (more x xs) (suc i) b h = more x (put xs i b h)
 
 -- numbers that are written out, by a test that antt computes
-below : List ℕ → Bool
+unfoldable pub below : List ℕ → Bool
 below [] = true
 below (x ∷ l) = ltb x 256 && below l
 
-tested : (l : List ℕ) → below l ≡ true → Bytes l
+pub tested : (l : List ℕ) → below l ≡ true → Bytes l
 unfolding below
 tested [] e = none
 tested (x ∷ l) e = more (ltb-true x 256 (and-left (ltb x 256) (below l) e)) (tested l (and-right (ltb x 256) (below l) e))
