@@ -22,7 +22,7 @@ static unsigned char *put(unsigned char *memory, enum side side, const unsigned 
 static void try_start_bytes(enum side side, size length)
 {
     unsigned char *start = put(start_memory, side, zero_start, length);
-    unsigned char *state = beside(state_memory, side, TALLOWREED_STATE_SIZE);
+    unsigned char *state = put(state_memory, side, later_state, TALLOWREED_STATE_SIZE);
     unsigned long refusal = length == TALLOWREED_START_SIZE ? TALLOWREED_TAKEN : TALLOWREED_BAD_SECTION;
     begin_case("fenced start bytes, of length", length);
     begin_call(POWER_ON);
@@ -50,20 +50,20 @@ static void try_no_place(enum side side, size length)
     unsigned char *start = put(start_memory, side, zero_start, TALLOWREED_START_SIZE - 1);
     unsigned char *file = put(file_memory, side, sample_file, SAMPLE_FILE);
     unsigned char *output = beside(output_memory, side, 0);
-    unsigned char *state = put(state_memory, side, zero_state, length);
+    unsigned char *state = put(state_memory, side, later_state, length);
     begin_case("a fenced state to be written, of length", length);
     begin_call(POWER_ON);
     expect_number("refusal", TALLOWREED_NO_PLACE, tallowreed_power_on(start, TALLOWREED_START_SIZE - 1, state, length));
     begin_call(RUN);
     expect_ran(TALLOWREED_NO_PLACE, tallowreed_run(file, SAMPLE_FILE, output, 0, state, length));
-    expect_bytes("state", zero_state, state, length);
+    expect_bytes("state", later_state, state, length);
 }
 
 static void try_file(enum side side, size file_length, size output_length, unsigned long ran)
 {
     unsigned char *file = put(file_memory, side, sample_file, file_length);
     unsigned char *output = beside(output_memory, side, output_length);
-    unsigned char *state = beside(state_memory, side, TALLOWREED_STATE_SIZE);
+    unsigned char *state = put(state_memory, side, later_state, TALLOWREED_STATE_SIZE);
     begin_call(RUN);
     expect_ran(ran, tallowreed_run(file, file_length, output, output_length, state, TALLOWREED_STATE_SIZE));
     expect_bytes("state", ran == SAMPLE_RAN ? started_state : zero_state, state, TALLOWREED_STATE_SIZE);

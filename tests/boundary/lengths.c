@@ -11,7 +11,7 @@ static size state_part(size length)
 
 static void expect_state_kept(void)
 {
-    expect_lent(&state_lent, zero_state, state_part(state_lent.length));
+    expect_lent(&state_lent, later_state, state_part(state_lent.length));
 }
 
 static void try_step(unsigned char *state, size length)
@@ -85,7 +85,7 @@ static void try_all(unsigned char *state, size length)
 static void try_length(size length)
 {
     begin_case("a state of length", length);
-    try_all(lend(&state_lent, zero_state, state_part(length), length), length);
+    try_all(lend(&state_lent, later_state, state_part(length), length), length);
 }
 
 static void try_null_state(void)
@@ -128,6 +128,8 @@ void try_lengths(void)
 {
     begin_case("states of another length than", TALLOWREED_STATE_SIZE);
     expect_number("the number for no place", 255, TALLOWREED_NO_PLACE);
+    begin_call(PIN);
+    expect_told(PIN_TOLD, tallowreed_pin(later_state, TALLOWREED_STATE_SIZE));
     for (size length = 0; length <= 200; length++)
         if (length != TALLOWREED_STATE_SIZE)
             try_length(length);

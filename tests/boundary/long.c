@@ -74,7 +74,7 @@ static void try_outputs(void)
 static void try_far_state(unsigned char *far)
 {
     size length = OVER_32_BITS(TALLOWREED_STATE_SIZE);
-    memcpy(far, zero_state, TALLOWREED_STATE_SIZE);
+    memcpy(far, later_state, TALLOWREED_STATE_SIZE);
     begin_case("a state of length", length);
     begin_call(POWER_ON);
     expect_number("refusal", TALLOWREED_NO_PLACE, tallowreed_power_on(zero_start, TALLOWREED_START_SIZE, far, length));
@@ -86,7 +86,7 @@ static void try_far_state(unsigned char *far)
     expect_told(TALLOWREED_BAD_STATE, tallowreed_register(far, length, CTR1));
     begin_call(RUN);
     expect_ran(TALLOWREED_NO_PLACE, tallowreed_run(sample_file, SAMPLE_FILE, 0, 0, far, length));
-    expect_bytes("state", zero_state, far, TALLOWREED_STATE_SIZE);
+    expect_bytes("state", later_state, far, TALLOWREED_STATE_SIZE);
 }
 
 static void try_far_others(unsigned char *far)
@@ -94,6 +94,7 @@ static void try_far_others(unsigned char *far)
     unsigned char state[TALLOWREED_STATE_SIZE];
     begin_case("start bytes of length", OVER_32_BITS(TALLOWREED_START_SIZE));
     memcpy(far, zero_start, TALLOWREED_START_SIZE);
+    memcpy(state, later_state, sizeof state);
     begin_call(POWER_ON);
     expect_number("refusal", TALLOWREED_BAD_SECTION,
                   tallowreed_power_on(far, OVER_32_BITS(TALLOWREED_START_SIZE), state, sizeof state));
@@ -101,6 +102,7 @@ static void try_far_others(unsigned char *far)
 
     begin_case("a file of length", OVER_32_BITS(SAMPLE_FILE));
     memcpy(far, sample_file, SAMPLE_FILE);
+    memcpy(state, later_state, sizeof state);
     begin_call(RUN);
     expect_ran(TALLOWREED_FILE_LONG, tallowreed_run(far, OVER_32_BITS(SAMPLE_FILE), 0, 0, state, sizeof state));
     expect_bytes("state", zero_state, state, sizeof state);

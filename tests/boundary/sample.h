@@ -21,6 +21,9 @@ extern const unsigned char zero_start[TALLOWREED_START_SIZE];
 extern const unsigned char zero_state[TALLOWREED_STATE_SIZE];
 extern const unsigned char started_state[TALLOWREED_STATE_SIZE];
 
+/* A good state that no power-on, run or event here leaves as it is: its seconds and its second counter are not 0. */
+extern const unsigned char later_state[TALLOWREED_STATE_SIZE];
+
 /* What the step of a START tells, what the pin does, and what the register 0Fh does: the pin is high, RTCF is set. */
 #define STARTED_TOLD 0x00004800u
 #define PIN_TOLD 0x00004800u
