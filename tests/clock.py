@@ -422,7 +422,8 @@ def try_failing(tries):
     tries.complains("half of the facts", clone.run("--picture", EXAMPLE), b"the program explain ended with status 3")
     (clone.folder / "tools" / "program").unlink()
     for name in (EXAMPLE, EXAMPLE.parent):
-        tries.complains(f"no tool to build with: {name}", clone.run(name), b"No such file or directory")
+        says = b"clock: tools/program cannot be run: No such file or directory\n"
+        tries.same(f"no tool to build with: {name}", clone.run(name), (2, b"", says))
 
 
 def try_interrupt(tries):

@@ -246,7 +246,7 @@ def call(given):
 def main():
     try:
         return call(sys.argv[1:])
-    except Complaint as complaint:
+    except (Complaint, programs.NoTool) as complaint:
         say(complaint)
         return 2
     except programs.Missing:

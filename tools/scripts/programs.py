@@ -14,6 +14,10 @@ class Missing(Exception):
     """There is no program to run; tools/program has said why."""
 
 
+class NoTool(Missing):
+    """Not even tools/program can be run, and why, in one line."""
+
+
 class Stopped(Exception):
     """A program ended otherwise than it should."""
 
@@ -21,7 +25,10 @@ class Stopped(Exception):
 @functools.lru_cache(maxsize=None)
 def command(crate):
     """The words that run a crate's program, which is proved and built first where that is not done yet."""
-    done = subprocess.run([TOOL, "--words", crate], stdin=subprocess.DEVNULL, stdout=subprocess.PIPE)
+    try:
+        done = subprocess.run([TOOL, "--words", crate], stdin=subprocess.DEVNULL, stdout=subprocess.PIPE)
+    except OSError as error:
+        raise NoTool(f"tools/program cannot be run: {error.strerror}") from error
     judge(crate, done.returncode, Missing)
     return [os.fsdecode(word) for word in done.stdout.split(b"\n")[:-1]]
 
