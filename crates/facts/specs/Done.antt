@@ -1,4 +1,4 @@
--- What each deed says: of the state before the event, of its answer, and of the state that it leaves. (rules 11.1 to 11.5)
+-- What each deed says: of the event's kind, of the state before it, of its answer, and of the state that it leaves. (rules 11.1 to 11.5)
 use mathlib.Core.Path.{_≡_}
 use mathlib.Core.Bool.{Bool, true, false}
 use mathlib.Core.List.{List}

@@ -205,7 +205,7 @@ module _ (s : List ℕ) (each : (i : ℕ) → getD s i 0 < 256) (kind byte count
   unfolding stepOf
   refused-stays = step-by (acceptedOf s) refl
 
--- a look at the pin or at a register is refused exactly where a step is, whatever its event
+-- a look at the pin or at a register is refused with 1 exactly where a step is, whatever its event
 one-row : {c : Clock} {kind byte count n : ℕ} → StepDue c kind byte count n → n ≡ 1 → Row1 c
 one-row (StepDue.due1 r) e = r
 one-row (StepDue.due2 n1 r) e = absurd (omega arith)
@@ -305,11 +305,6 @@ module _ (s : List ℕ) where
       unfolding registerOf
       register-shown =
           ap saidIn (look-taken (Byte shown)) ∙ said-back 0 (pin.pinOf (clockOf s)) (Byte shown) (omega arith) (pin-byte (clockOf s)) shown-byte
-
-      pub register-byte-shown : byteIn (registerOf s a) ≡ shown
-      unfolding registerOf
-      register-byte-shown =
-          ap byteIn (look-taken (Byte shown)) ∙ told-byte 0 (pin.pinOf (clockOf s)) (Byte shown) (omega arith) (pin-byte (clockOf s)) shown-byte
 
 -- a power-on on a state of another length is told 255 and leaves it; on any other it is the chip's, so that it is refused as the rows say
 no-row : {start : List ℕ} {n : ℕ} → PowerDue start n → n ≡ 255 → ⊥
