@@ -47,10 +47,13 @@ owed='12200915
 printed=$(cargo run --manifest-path "$package" --quiet --offline --example boot) || fail "the example boot stopped"
 [ "$printed" = "$owed" ] || fail "the example boot printed $(echo "$printed" | tr '\n' ' ')"
 
-# With an archive of another version no clock can be made, and that is an error and no panic.
+# With an archive of another version no clock can be made, and that is an error and no panic: it finds no place for its
+# states, or has a further row.
 other=$(mktemp -d) || exit 1
 trap 'rm -rf "$other"' EXIT
-gcc -c -o "$other/other.o" tests/other_version.c && ar rcs "$other/libsd2068_abi.a" "$other/other.o" ||
-    fail "the archive of another version cannot be made"
-printed=$(TALLOWREED_ARCHIVE_DIR=$other cargo run --manifest-path "$package" --quiet --offline --example boot 2>&1)
-[ "$? $printed" = "1 Error: NoPlace" ] || fail "with an archive of another version the example boot printed $printed"
+for told in 255 20; do
+    gcc -c -DTOLD=$told -o "$other/other.o" tests/other_version.c && ar rcs "$other/libsd2068_abi.a" "$other/other.o" ||
+        fail "the archive of another version cannot be made"
+    printed=$(TALLOWREED_ARCHIVE_DIR=$other cargo run --manifest-path "$package" --quiet --offline --example boot 2>&1)
+    [ "$? $printed" = "1 Error: OtherVersion" ] || fail "with an archive that tells $told the example boot printed $printed"
+done

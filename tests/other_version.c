@@ -1,4 +1,7 @@
-/* The archive as another version may have it, with states of 62 bytes: no clock of this version can be made with it. */
+/*
+ * The archive as another version may have it: it has states of 62 bytes, and refuses to power on or to run where 61 are
+ * lent, with the number TOLD. No clock of this version can be made with it.
+ */
 #include "../include/tallowreed.h"
 
 #define OTHER_SIZE (TALLOWREED_STATE_SIZE + 1)
@@ -12,7 +15,7 @@ unsigned char tallowreed_power_on(const unsigned char *start, __SIZE_TYPE__ star
                                   __SIZE_TYPE__ state_length)
 {
     (void)start, (void)start_length, (void)state;
-    return state_length == OTHER_SIZE ? TALLOWREED_TAKEN : TALLOWREED_NO_PLACE;
+    return state_length == OTHER_SIZE ? TALLOWREED_TAKEN : TOLD;
 }
 
 unsigned int tallowreed_step(unsigned char *state, __SIZE_TYPE__ state_length, unsigned char kind, unsigned char byte,
@@ -38,5 +41,5 @@ unsigned long tallowreed_run(const unsigned char *file, __SIZE_TYPE__ file_lengt
                              __SIZE_TYPE__ output_length, unsigned char *state, __SIZE_TYPE__ state_length)
 {
     (void)file, (void)file_length, (void)output, (void)output_length, (void)state;
-    return state_length == OTHER_SIZE ? TALLOWREED_TAKEN : TALLOWREED_NO_PLACE;
+    return state_length == OTHER_SIZE ? TALLOWREED_TAKEN : TOLD;
 }

@@ -27,8 +27,7 @@ impl Clock {
     /// [`Refusal::Section`] if there are not 19 start bytes, else [`Refusal::Start`] if a byte of
     /// the time has a bit set that is always 0. In C a refused power-on hands back the state of 19
     /// zero bytes beside the refusal; here there is none, and `Clock::power_on(&[0; 19])` makes it.
-    /// [`Refusal::NoPlace`] means that the archive has states of another length, see
-    /// [`state_size`](crate::state_size).
+    /// [`Refusal::OtherVersion`] means that another archive is linked than this package is for.
     ///
     /// ```
     /// # use tallowreed::{Clock, Refusal};

@@ -61,7 +61,7 @@ pub const REGISTERS: usize = 32;
 
 /// [`STATE_SIZE`] as the archive has it, to be compared. Where the two differ the archive is of
 /// another version, and no clock can be made: a power-on and a script file are refused with
-/// [`Refusal::NoPlace`], and the bytes of a state with [`Refusal::State`].
+/// [`Refusal::OtherVersion`], and the bytes of a state with [`Refusal::State`].
 ///
 /// ```
 /// assert_eq!(tallowreed::state_size(), tallowreed::STATE_SIZE);

@@ -33,9 +33,10 @@ pub enum Refusal {
     OutputShort = 7,
     /// 8: a script file is longer than 16,384 bytes.
     FileLong = 8,
-    /// 255: the archive has states of another length, see [`state_size`](crate::state_size), and so
-    /// finds no place for one here. No row of the rules has this number.
-    NoPlace = 255,
+    /// 255: the archive is of another version. It has states of another length, see
+    /// [`state_size`](crate::state_size), or it refuses with a number that is none of these, which
+    /// this package cannot tell the reason of. No row of the rules has the number 255.
+    OtherVersion = 255,
 }
 
 impl Refusal {
@@ -49,7 +50,7 @@ impl Refusal {
         Refusal::Start,
         Refusal::OutputShort,
         Refusal::FileLong,
-        Refusal::NoPlace,
+        Refusal::OtherVersion,
     ];
 
     /// The refusal's number: 1 to 8, as the script program prints it, or 255.
@@ -60,12 +61,12 @@ impl Refusal {
 
     /// What the archive tells of a refusal: 0 for none, else its number.
     pub(crate) fn check(number: u16) -> Result<(), Refusal> {
-        let mut all = Self::ALL.into_iter();
-        match all.find(|refusal| u16::from(refusal.number()) == number) {
-            Some(refusal) => Err(refusal),
-            None if number == 0 => Ok(()),
-            None => unreachable!("the archive tells no refusal {number}"),
+        if number == 0 {
+            return Ok(());
         }
+        let mut all = Self::ALL.into_iter();
+        let known = all.find(|refusal| u16::from(refusal.number()) == number);
+        Err(known.unwrap_or(Refusal::OtherVersion))
     }
 }
 
@@ -80,7 +81,7 @@ impl fmt::Display for Refusal {
             Refusal::Start => "a start byte of the time has a bit set that is always 0",
             Refusal::OutputShort => "the output is too short for the lines",
             Refusal::FileLong => "the file is longer than 16,384 bytes",
-            Refusal::NoPlace => "the archive has states of another length",
+            Refusal::OtherVersion => "the archive is of another version",
         };
         write!(f, "refused {}: {reason}", self.number())
     }

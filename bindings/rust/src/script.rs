@@ -46,8 +46,8 @@ pub struct Refused {
 /// # Errors
 ///
 /// The refusal, with the index of the event at fault where it is one's. Nothing has run then, and
-/// the output stays as it is. Every file is refused with [`Refusal::NoPlace`] where the archive has
-/// states of another length, see [`state_size`](crate::state_size).
+/// the output stays as it is. Every file is refused with [`Refusal::OtherVersion`] where the archive
+/// has states of another length, see [`state_size`](crate::state_size).
 ///
 /// ```
 /// # use tallowreed::{run, Refusal, Refused};

@@ -28,8 +28,8 @@ fn each_is_met() {
     assert_eq!(met, Refusal::ALL[..8]);
     assert_eq!(met.map(Refusal::number), [1, 2, 3, 4, 5, 6, 7, 8]);
     // Met only with an archive of another version.
-    assert_eq!(Refusal::ALL[8], Refusal::NoPlace);
-    assert_eq!(Refusal::NoPlace.number(), 255);
+    assert_eq!(Refusal::ALL[8], Refusal::OtherVersion);
+    assert_eq!(Refusal::OtherVersion.number(), 255);
 }
 
 #[test]
