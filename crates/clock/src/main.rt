@@ -1,6 +1,7 @@
 // Runs the script file on standard input: prints its lines, or only what it is refused for. (section 9)
 use libc::STDIN_FILENO;
 use libc::STDOUT_FILENO;
+use script::LONGEST_REFUSED;
 use script::put_refused;
 use script::run;
 
@@ -26,8 +27,7 @@ fn run_file(file: &[u8], out: &mut [u8]) {
 }
 
 fn print_refusal(n: u8) {
-    // The longest line, that of a number with three digits.
-    let mut line = [0u8; 12];
+    let mut line = [0u8; LONGEST_REFUSED];
     let size = put_refused(&mut line, n);
     io::write_all(STDOUT_FILENO, &line[..size]);
 }

@@ -7,6 +7,7 @@ use crate::lines::print_run;
 use crate::pen::print;
 use crate::pen::print_decimal;
 use libc::STDIN_FILENO;
+use script::LONGEST_REFUSED;
 use script::put_refused;
 use script::run;
 ghost use Prim.Native.Nat.{_≤_};
@@ -36,7 +37,7 @@ fn explain(file: &[u8], out: &mut [u8])
 
 // The script program's line, with the index before its newline. (rules 9.6 and 11.7)
 fn print_refusal(n: u8, index: usize) {
-    let mut line = [0u8; 12];
+    let mut line = [0u8; LONGEST_REFUSED];
     let size = put_refused(&mut line, n);
     let end = size - 1;
     print(&line[..end]);

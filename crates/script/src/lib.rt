@@ -12,4 +12,5 @@ pub use contents::listed;
 pub use contents::start;
 pub use file::Ran;
 pub use file::run;
+pub use refused::LONGEST_REFUSED;
 pub use refused::put_refused;

@@ -5,6 +5,9 @@ ghost use lib.ListN.{length};
 ghost use lib.Seq.{paste};
 ghost use Rattle.script.specs.Refused.{decimalDigit, refusedNumber, refusedLine, hasPut, refusedPut};
 
+// The bytes of the longest line, that of a number with three digits.
+pub const LONGEST_REFUSED: usize = 12;
+
 // A text's bytes, from a place on.
 fn put(out: &mut [u8], at: usize, text: &[u8])
     requires { ⌜ at + length (now text) ≤ length (now out) ⌝ }
@@ -52,7 +55,7 @@ fn line_size(n: u8) -> usize
     match n {
         0..=9 => 10,
         10..=99 => 11,
-        _ => 12,
+        _ => LONGEST_REFUSED,
     }
 }
 

@@ -2,6 +2,7 @@
 use events::Answer;
 use events::Refusal;
 use libc::STDOUT_FILENO;
+use script::LONGEST_REFUSED;
 use script::Ran;
 use script::put_refused;
 use sd2068::Clock;
@@ -16,7 +17,7 @@ pub(crate) fn print_refusal(refusal: Refusal) {
 fn print_number(refusal: Refusal, end: &[u8]) {
     let n = refusal.number();
     if 0 < n {
-        let mut line = [0u8; 12];
+        let mut line = [0u8; LONGEST_REFUSED];
         let size = put_refused(&mut line, n);
         let newline = size - 1;
         print(&line[..newline]);
