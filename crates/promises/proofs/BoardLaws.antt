@@ -1,6 +1,6 @@
 -- What a board's calls tell is what the chip's steps answer, so what holds of steps holds of the numbers told. Assumes nothing.
 use mathlib.Core.Path.{_≡_, refl, sym, ap, _∙_}
-use mathlib.Core.Bool.{Bool, true, false, true≢false}
+use mathlib.Core.Bool.{true}
 use mathlib.Core.List.{List, [], _∷_, _++_, map}
 use Prim.Native.Nat.{ℕ, zero, suc, _+_, _%_, _<_}
 use native.Mathlib.Omega.{arith}
@@ -26,12 +26,12 @@ use Rattle.state_bytes.specs.Decoded.{clockOf}
 use Rattle.state_bytes.specs.Encoded.{bytesOf}
 use Rattle.state_events.proofs.ArrayLaws.{decoded-arrays, power-on-arrays, steps-arrays}
 use Rattle.sd2068_abi.specs.Abi.{acceptedOf, afterIn, toldIn, LentRun, runOf}
-use Rattle.sd2068_abi.specs.Said.{textIn, Said, saidIn, saidOf, saidBy, readsIn}
+use Rattle.sd2068_abi.specs.Said.{textIn, Said, saidIn, saidOf, saidBy, readsSaid}
 use Rattle.sd2068_abi.proofs.BoundaryLaws.{encoded-decoded, accepted-well, accepted-encoded, board-steps, calls-tell, reads-said, board-run}
 use Rattle.promises.specs.Ledger.{idOf, digitsOf, SameMinute}
 use Rattle.promises.specs.Board.{OnBoard, fromAddress, KeepsTimeOn, bytesRead, digitsTold}
-use Rattle.promises.proofs.DigitLaws.{time-small, reads-bytes}
-use Rattle.promises.proofs.LedgerLaws.{same-digits}
+use Rattle.promises.proofs.DigitLaws.{no-nil, time-small, reads-bytes}
+use Rattle.promises.proofs.LedgerLaws.{same-minute}
 
 -- what is said of numbers further on
 said-drop : (n : ℕ) (l : List ℕ) → map saidIn (drop n l) ≡ drop n (map saidIn l)
@@ -50,13 +50,9 @@ unfolding saidBy
 said-length c [] = refl
 said-length c (e ∷ es) = ap suc (said-length (step c e .state) es)
 
--- the first of some numbers, and the others, by what they say
-abbrev is-none : List Said → Bool
-is-none [] = true
-is-none (x ∷ l) = false
-
+-- the first of some numbers, by what they say
 first-text : (l : List ℕ) (x : Said) (xs : List Said) → map saidIn l ≡ x ∷ xs → textIn (getD l 0 0) ≡ x .answer
-first-text [] x xs e = absurd (true≢false (ap is-none e))
+first-text [] x xs e = absurd (no-nil e)
 first-text (n ∷ l) x xs e = ap (λ (z : List Said). getD z 0 x .answer) e
 
 -- promise 3 for a board
@@ -87,7 +83,7 @@ module _ (t : Time) (k : ℕ) (l : Legal t k) (b : OnBoard t) where
   board-kept =
       let kept = step-kept (b .begun) (b .well) t k l (b .run) in
       let reads =
-      ap (readsIn (readingOf (b .run))) (said-drop 1 (fromAddress b) ∙ ap (drop 1) from-said)
+      ap (readsSaid (readingOf (b .run))) (said-drop 1 (fromAddress b) ∙ ap (drop 1) from-said)
       ∙ reads-said (step asked (byte 0x65) .state) (readingOf (b .run)) in
       record {
         acknowledged = first-text (fromAddress b) _ _ from-said ∙ kept .acknowledged;
@@ -134,7 +130,4 @@ module _ (t : Time) (k : ℕ) (b : OnBoard t) (r : KeepsTimeOn b k) where
 pub board-id :
     {t u : Time} {k l : ℕ} (a : OnBoard t) (b : OnBoard u) → modeOf (t .hours) ≡ modeOf (u .hours)
     → (r : KeepsTimeOn a k) (s : KeepsTimeOn b l) → digitsTold a ≡ digitsTold b → SameMinute (r .time) (s .time)
-board-id {t} {u} {k} {l} a b mode r s e =
-    let v = r .counted .later in
-    let w = s .counted .later in
-    same-digits (r .time) (s .time) _ _ (v .number) (w .number) (v .mode ∙ mode ∙ sym (w .mode)) (sym (board-digits t k a r) ∙ e ∙ board-digits u l b s)
+board-id {t} {u} {k} {l} a b mode r s e = same-minute mode r s (sym (board-digits t k a r) ∙ e ∙ board-digits u l b s)

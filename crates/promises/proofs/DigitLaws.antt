@@ -15,7 +15,7 @@ use Rattle.events.specs.declared.event.Event.{Event}
 use Rattle.events.specs.declared.answer.Answer.the-variants.{Byte}
 use Rattle.events.specs.Answer.{digitOf, textOf}
 use Rattle.sd2068.specs.Run.{readBy}
-use Rattle.sd2068_abi.specs.Said.{answerIn, byteIn, textIn, saidIn, readsIn}
+use Rattle.sd2068_abi.specs.Said.{answerIn, byteIn, textIn, saidIn, readsSaid}
 use Rattle.sd2068_abi.proofs.ByteLaws.{Bytes}
 use Rattle.promises.specs.Ledger.{byteRead}
 use Rattle.promises.specs.Board.{bytesIn}
@@ -45,37 +45,41 @@ module _ (x b : ℕ) (small : b < 256) where
 text-byte : (n b : ℕ) → b < 256 → textIn n ≡ textOf (Byte b) → byteIn n ≡ b
 text-byte n b small e = byte-by (byteIn n) b small (eqb (answerIn n) 0) (eqb (answerIn n) 1) (eqb (answerIn n) 2) e (omega arith)
 
+-- a list that has something is not empty
+abbrev is-nil : {A : Type 0} → List A → Bool
+is-nil [] = true
+is-nil (x ∷ l) = false
+
+pub no-nil : {A : Type 0} {x : A} {l : List A} → [] ≡ x ∷ l → ⊥
+no-nil e = true≢false (ap is-nil e)
+
 abbrev texts : List ℕ → List (List ℕ)
 texts bs = map (λ b. textOf (Byte b)) bs
 
-abbrev none-left : List (List ℕ) → Bool
-none-left [] = true
-none-left (x ∷ l) = false
-
 nothing : (bs : List ℕ) → [] ≡ texts bs → [] ≡ bs
 nothing [] e = refl
-nothing (b ∷ bs) e = absurd (true≢false (ap none-left e))
+nothing (b ∷ bs) e = absurd (no-nil e)
 
 -- calls whose texts are those of bytes tell these bytes
 one-read :
-    (n : ℕ) (ns bs : List ℕ) (rest : List (List ℕ)) (told : List ℕ) → Bytes bs → textIn n ∷ rest ≡ texts bs
+    (n : ℕ) (bs : List ℕ) (rest : List (List ℕ)) (told : List ℕ) → Bytes bs → textIn n ∷ rest ≡ texts bs
     → ((cs : List ℕ) → Bytes cs → rest ≡ texts cs → told ≡ cs) → byteIn n ∷ told ≡ bs
-one-read n ns [] rest told small e go = absurd (true≢false (sym (ap none-left e)))
-one-read n ns (b ∷ bs) rest told (Bytes.more h small) e go =
+one-read n [] rest told small e go = absurd (no-nil (sym e))
+one-read n (b ∷ bs) rest told (Bytes.more h small) e go =
     λ i. text-byte n b h (ap (λ (l : List (List ℕ)). getD l 0 []) e) i ∷ go bs small (ap (drop 1) e) i
 
 by-read :
-    (read : Bool) (n : ℕ) (ns bs : List ℕ) (rest : List (List ℕ)) (told : List ℕ) → Bytes bs → cond read (textIn n ∷ rest) rest ≡ texts bs
+    (read : Bool) (n : ℕ) (bs : List ℕ) (rest : List (List ℕ)) (told : List ℕ) → Bytes bs → cond read (textIn n ∷ rest) rest ≡ texts bs
     → ((cs : List ℕ) → Bytes cs → rest ≡ texts cs → told ≡ cs) → cond read (byteIn n ∷ told) told ≡ bs
-by-read true n ns bs rest told small e go = one-read n ns bs rest told small e go
-by-read false n ns bs rest told small e go = go bs small e
+by-read true n bs rest told small e go = one-read n bs rest told small e go
+by-read false n bs rest told small e go = go bs small e
 
-pub reads-bytes : (es : List Event) (ns bs : List ℕ) → Bytes bs → readsIn es (map saidIn ns) ≡ texts bs → bytesIn es ns ≡ bs
-unfolding readsIn bytesIn
+pub reads-bytes : (es : List Event) (ns bs : List ℕ) → Bytes bs → readsSaid es (map saidIn ns) ≡ texts bs → bytesIn es ns ≡ bs
+unfolding readsSaid bytesIn
 reads-bytes [] ns bs small e = nothing bs e
 reads-bytes (q ∷ es) [] bs small e = nothing bs e
 reads-bytes (q ∷ es) (n ∷ ns) bs small e =
-    by-read (readBy q) n ns bs (readsIn es (map saidIn ns)) (bytesIn es ns) small e (λ cs x y. reads-bytes es ns cs x y)
+    by-read (readBy q) n bs (readsSaid es (map saidIn ns)) (bytesIn es ns) small e (λ cs x y. reads-bytes es ns cs x y)
 
 -- the bytes of a legal time
 pub time-small : (t : Time) (k : ℕ) → Legal t k → Bytes (bytesOf t)

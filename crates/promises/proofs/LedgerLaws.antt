@@ -87,14 +87,20 @@ module _ (t u : Time) (k l : ℕ) (legal-t : numberOf t ≡ some k) (legal-u : n
 shown-digits : {t : Time} {k f p : ℕ} {a : List ℕ} {x : List (List ℕ)} (r : ReadsBack t k f p a x) → digitsRead x ≡ digitsOf (r .time)
 shown-digits r = ap digitsRead (r .shown) ∙ read-digits (r .time) _ (r .counted .later .number)
 
--- so answers that show the same digits were read in the same minute
+-- two readings whose times have the same digits were made in the same minute
+pub same-minute :
+    {t u : Time} {k l f g p q : ℕ} {a b : List ℕ} {x y : List (List ℕ)} → modeOf (t .hours) ≡ modeOf (u .hours)
+    → (r : ReadsBack t k f p a x) (s : ReadsBack u l g q b y) → digitsOf (r .time) ≡ digitsOf (s .time) → SameMinute (r .time) (s .time)
+same-minute mode r s e =
+    let v = r .counted .later in
+    let w = s .counted .later in
+    same-digits (r .time) (s .time) _ _ (v .number) (w .number) (v .mode ∙ mode ∙ sym (w .mode)) e
+
+-- so are two whose answers show the same digits
 pub one-id :
     {t u : Time} {k l f g p q : ℕ} {a b : List ℕ} {x y : List (List ℕ)} → modeOf (t .hours) ≡ modeOf (u .hours)
     → (r : ReadsBack t k f p a x) (s : ReadsBack u l g q b y) → digitsRead x ≡ digitsRead y → SameMinute (r .time) (s .time)
-one-id mode r s e =
-    let v = r .counted .later in
-    let w = s .counted .later in
-    same-digits (r .time) (s .time) _ _ (v .number) (w .number) (v .mode ∙ mode ∙ sym (w .mode)) (sym (shown-digits r) ∙ e ∙ shown-digits s)
+one-id mode r s e = same-minute mode r s (sym (shown-digits r) ∙ e ∙ shown-digits s)
 
 -- 09:15 and 21:15, in 24-hour mode and in 12-hour mode
 pub quarter-past :

@@ -58,7 +58,7 @@ use Rattle.state_bytes.specs.Encoded.{bytesOf}
 use Rattle.state_bytes.specs.Shapes.{Arrays}
 use Rattle.sd2068_abi.specs.Abi as abi
 use Rattle.sd2068_abi.specs.Abi.{lent, acceptedOf, powerOf, afterIn, toldIn, lentRun}
-use Rattle.sd2068_abi.specs.Said.{refusalIn, runRefusalIn, runIndexIn, Said, saidIn, saidOf, saidBy, EventBytes}
+use Rattle.sd2068_abi.specs.Said.{refusalIn, runRefusalIn, runIndexIn, runCountIn, Said, saidIn, saidOf, saidBy, EventBytes}
 use Rattle.sd2068_abi.proofs.BoundaryLaws as board
 use Rattle.sd2068_abi.proofs.Settled as boards
 use Rattle.promises.specs.Fixed.{fixed}
@@ -303,6 +303,12 @@ pub board-run :
     abi.runOf file out s ≡ lentRun (r .refusal + 65536 * r .index + 4294967296 * r .count) (r .output) (bytesOf (r .state))
 board-run = board.board-run
 
+-- and the count that is told of a run is the file's
+pub run-counts :
+    (file out s : List ℕ) → length s ≡ 61 → let told = abi.runOf file out s .told in
+    runRefusalIn told ≡ 0 → runCountIn told ≡ headerWord file 0
+run-counts = board.run-counts
+
 -- Promise 3: a time that was set reads back as many seconds on as the pulses since make.
 
 -- the lock that a setting finds open is open by the bits of 10h and 0Fh
@@ -383,6 +389,9 @@ pub scripted-read :
     ≡ (48 ∷ 48 ∷ []) ∷ (49 ∷ 53 ∷ []) ∷ (50 ∷ 57 ∷ []) ∷ (48 ∷ 51 ∷ []) ∷ (50 ∷ 48 ∷ []) ∷ (49 ∷ 50 ∷ []) ∷ (48 ∷ 54 ∷ []) ∷ []
 unfolding scripted
 scripted-read = file.scripted-read
+
+pub scripted-stored : registerOf (runOf file.file file.out .state) 0x14 ≡ 0x5A
+scripted-stored = file.scripted-stored
 
 pub scripted-kept : KeepsTimeIn 219964500 scripted (runOf file.file file.out .output)
 unfolding scripted

@@ -13,7 +13,7 @@ use Rattle.sd2068.specs.Run.{byte, step, after, readBy}
 use Rattle.sd2068.specs.Kept.{pulsesSince, Kept, untilAddress, readingOf, ReadsBack}
 use Rattle.state_bytes.specs.Decoded.{clockOf}
 use Rattle.sd2068_abi.specs.Abi.{acceptedOf, toldIn}
-use Rattle.sd2068_abi.specs.Said.{byteIn, textIn, saidIn, readsIn, EventBytes}
+use Rattle.sd2068_abi.specs.Said.{byteIn, textIn, saidIn, readsSaid, EventBytes}
 use Rattle.promises.specs.Ledger.{idOf}
 
 -- a time is set from a state on, and after any traffic a board reads it back by calls. It lends the bytes of the state after some of these events, made before by calls or by the run of a file; its calls are the others, one for each
@@ -39,7 +39,7 @@ module _ {t : Time} (b : OnBoard t) where
   abbrev pub KeepsTimeOn : ℕ → Type 0
   KeepsTimeOn k =
       ReadsBack t k (registerOf (b .begun) 0x12) (pulsesSince (b .run .setting) (b .run .traffic)) (textIn (getD fromAddress 0 0))
-      (readsIn (readingOf (b .run)) (map saidIn (drop 1 fromAddress)))
+      (readsSaid (readingOf (b .run)) (map saidIn (drop 1 fromAddress)))
 
 -- the bytes that the calls for the reads among events tell
 unfoldable pub bytesIn : List Event → List ℕ → List ℕ

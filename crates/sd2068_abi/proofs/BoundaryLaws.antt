@@ -41,7 +41,7 @@ use Rattle.state_bytes.proofs.RoundLaws.{encoded-back, encoded-state, decoded-w
 use Rattle.state_events.proofs.ArrayLaws.{decoded-arrays, power-on-arrays, step-arrays, steps-arrays}
 use Rattle.sd2068_abi.specs.Told.{answerByte, answerNumber, toldOf, ranOf}
 use Rattle.sd2068_abi.specs.Abi.{Lent, lent, fullOf, acceptedOf, noPlace, powerOf, answeredOf, doneOf, stepOf, afterIn, toldIn, seenOf, pinOf, registerOf, LentRun, lentRun, runOf}
-use Rattle.sd2068_abi.specs.Said.{refusalIn, pinIn, byteIn, answerIn, runRefusalIn, runIndexIn, runCountIn, textBy, textIn, saidIn, saidOf, saidBy, readsIn, EventBytes}
+use Rattle.sd2068_abi.specs.Said.{refusalIn, pinIn, byteIn, answerIn, runRefusalIn, runIndexIn, runCountIn, textBy, textIn, saidIn, saidOf, saidBy, readsSaid, EventBytes}
 use Rattle.sd2068_abi.proofs.AbiLaws.{accepted-full, accepted-state, step-refused}
 use Rattle.sd2068_abi.proofs.ByteLaws.{Small, decoded-small, register-byte, answer-byte, step-small, pin-byte, refusal-byte}
 
@@ -69,18 +69,10 @@ module _ (s : List ℕ) (each : (i : ℕ) → getD s i 0 < 256) (e : acceptedOf 
   pub accepted-encoded : bytesOf (clockOf s) ≡ s
   accepted-encoded = decoded-again s bytes (accepted-state s e)
 
--- a step on accepted bytes is the chip's: its refusal, its pin, its answer, and the bytes of the state that it leaves
+-- an event leaves the bytes of the state that the chip's step leaves
 module _ (c : Clock) (kind byte count : ℕ) where
   abbrev chip : Told
   chip = steps.stepOf c kind byte count
-
-  pub chip-told : doneOf c kind byte count .told ≡ toldOf (chip .refusal) (chip .pin) (answeredOf c kind byte count .answer)
-  unfolding doneOf steps.stepOf
-  chip-told = refl
-
-  pub chip-answer : textOf (answeredOf c kind byte count .answer) ≡ chip .answer
-  unfolding steps.stepOf
-  chip-answer = refl
 
   pub chip-state : doneOf c kind byte count .state ≡ bytesOf (chip .state)
   unfolding doneOf steps.stepOf
@@ -163,8 +155,8 @@ calls-by c a w s (EventBytes.more {e = e} {es = es} h hs) =
     let others = ap (λ (l : List ℕ). map saidIn (toldIn l es)) (next-bytes e c a w) ∙ rest in
     λ i. first-said e c a w s i ∷ others i
 
-pub reads-said : (c : Clock) (es : List Event) → readsIn es (saidBy c es) ≡ readsOf step c es
-unfolding saidBy readsIn readsOf
+pub reads-said : (c : Clock) (es : List Event) → readsSaid es (saidBy c es) ≡ readsOf step c es
+unfolding saidBy readsSaid readsOf
 reads-said c [] = refl
 reads-said c (e ∷ es) =
     ap (λ (l : List (List ℕ)). cond (readBy e) (toldBy c e .answer ∷ l) l) (reads-said (toldBy c e .state) es)
@@ -174,10 +166,6 @@ module _ (s : List ℕ) (each : (i : ℕ) → getD s i 0 < 256) (e : acceptedOf 
   calls-tell =
       ap (λ (l : List ℕ). map saidIn (toldIn l es)) (sym (accepted-encoded s each e))
       ∙ calls-by (clockOf s) (decoded-arrays s) (accepted-well s each e) (decoded-small s each) bytes
-
-  -- the reads among them answer what the chip's reads do
-  pub reads-tell : readsIn es (map saidIn (toldIn s es)) ≡ readsOf step (clockOf s) es
-  reads-tell = ap (readsIn es) calls-tell ∙ reads-said (clockOf s) es
 
 -- a step that is refused leaves the bytes as they are
 module _ (s : List ℕ) (each : (i : ℕ) → getD s i 0 < 256) (kind byte count : ℕ) where

@@ -63,10 +63,10 @@ saidBy c [] = []
 saidBy c (e ∷ es) = saidOf (toldBy c e) ∷ saidBy (toldBy c e .state) es
 
 -- of what is said to events, the answers to the reads
-unfoldable pub readsIn : List Event → List Said → List (List ℕ)
-readsIn [] all = []
-readsIn (e ∷ es) [] = []
-readsIn (e ∷ es) (x ∷ xs) = cond (readBy e) (x .answer ∷ readsIn es xs) (readsIn es xs)
+unfoldable pub readsSaid : List Event → List Said → List (List ℕ)
+readsSaid [] all = []
+readsSaid (e ∷ es) [] = []
+readsSaid (e ∷ es) (x ∷ xs) = cond (readBy e) (x .answer ∷ readsSaid es xs) (readsSaid es xs)
 
 -- what the type of an event's byte says and a number does not
 pub data EventBytes : List Event → Type 0 where
