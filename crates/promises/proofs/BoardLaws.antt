@@ -27,7 +27,9 @@ use Rattle.state_bytes.specs.Encoded.{bytesOf}
 use Rattle.state_events.proofs.ArrayLaws.{decoded-arrays, power-on-arrays, steps-arrays}
 use Rattle.sd2068_abi.specs.Abi.{acceptedOf, afterIn, toldIn, LentRun, runOf}
 use Rattle.sd2068_abi.specs.Said.{textIn, Said, saidIn, saidOf, saidBy, readsSaid}
-use Rattle.sd2068_abi.proofs.BoundaryLaws.{encoded-decoded, accepted-well, accepted-encoded, board-steps, calls-tell, reads-said, board-run}
+use Rattle.sd2068_abi.proofs.BoundaryLaws.{encoded-decoded, accepted-well, accepted-encoded, board-steps}
+use Rattle.sd2068_abi.proofs.SaidLaws.{calls-tell, reads-said}
+use Rattle.sd2068_abi.proofs.RunLaws.{board-run}
 use Rattle.promises.specs.Ledger.{idOf, digitsOf, SameMinute}
 use Rattle.promises.specs.Board.{OnBoard, fromAddress, KeepsTimeOn, bytesRead, digitsTold}
 use Rattle.promises.proofs.DigitLaws.{no-nil, time-small, reads-bytes}

@@ -60,6 +60,9 @@ use Rattle.sd2068_abi.specs.Abi as abi
 use Rattle.sd2068_abi.specs.Abi.{lent, acceptedOf, powerOf, afterIn, toldIn, lentRun}
 use Rattle.sd2068_abi.specs.Said.{refusalIn, runRefusalIn, runIndexIn, runCountIn, Said, saidIn, saidOf, saidBy, EventBytes}
 use Rattle.sd2068_abi.proofs.BoundaryLaws as board
+use Rattle.sd2068_abi.proofs.SaidLaws as said
+use Rattle.sd2068_abi.proofs.RefusedLaws as refused
+use Rattle.sd2068_abi.proofs.RunLaws as runs
 use Rattle.sd2068_abi.proofs.Settled as boards
 use Rattle.promises.specs.Fixed.{fixed}
 use Rattle.promises.specs.Registers.{bit, viewOf, Looks, State, lockOpen}
@@ -150,7 +153,7 @@ module _ (s : List ℕ) (each : (i : ℕ) → getD s i 0 < 256) (accepted : acce
   -- a step on them is refused with n exactly if n is due of their state, and what it leaves is accepted by the next call
   pub board-step-due : (kind byte count n : ℕ) → (refusalIn (abi.stepOf s kind byte count .told) ≡ n) ↔ StepDue (clockOf s) kind byte count n
   board-step-due kind byte count n =
-      subst (λ (m : ℕ). (m ≡ n) ↔ StepDue (clockOf s) kind byte count n) (ap (λ (x : Said). x .refusal) (sym (board.told-says s each accepted kind byte count)))
+      subst (λ (m : ℕ). (m ≡ n) ↔ StepDue (clockOf s) kind byte count n) (ap (λ (x : Said). x .refusal) (sym (said.told-says s each accepted kind byte count)))
       (step-refusal (clockOf s) kind byte count n)
 
   pub step-accepted : (kind byte count : ℕ) → acceptedOf (abi.stepOf s kind byte count .state) ≡ true
@@ -159,57 +162,57 @@ module _ (s : List ℕ) (each : (i : ℕ) → getD s i 0 < 256) (accepted : acce
 module _ (s : List ℕ) (kind byte count : ℕ) where
   -- bytes that are no state's a step refuses with 1, and no others
   pub no-state-refused : (refusalIn (abi.stepOf s kind byte count .told) ≡ 1) ↔ (acceptedOf s ≡ false)
-  no-state-refused = board.no-state-refused s kind byte count
+  no-state-refused = refused.no-state-refused s kind byte count
 
   -- a step that is refused leaves every byte
   pub refused-stays : ((i : ℕ) → getD s i 0 < 256) → (refusalIn (abi.stepOf s kind byte count .told) ≡ 0 → ⊥) → abi.stepOf s kind byte count .state ≡ s
-  refused-stays each = board.refused-stays s each kind byte count
+  refused-stays each = refused.refused-stays s each kind byte count
 
   -- the pin and a register are refused with 1 exactly if a step is, and then 1 is all that is told
   pub pin-refused : (refusalIn (abi.pinOf s) ≡ 1) ↔ (refusalIn (abi.stepOf s kind byte count .told) ≡ 1)
-  pin-refused = board.pin-refused s kind byte count
+  pin-refused = refused.pin-refused s kind byte count
 
   pub register-refused : (a : ℕ) → (refusalIn (abi.registerOf s a) ≡ 1) ↔ (refusalIn (abi.stepOf s kind byte count .told) ≡ 1)
-  register-refused = board.register-refused s kind byte count
+  register-refused = refused.register-refused s kind byte count
 
   pub refused-alone :
       refusalIn (abi.stepOf s kind byte count .told) ≡ 1
       → (abi.stepOf s kind byte count ≡ lent 1 s) × ((abi.pinOf s ≡ 1) × ((a : ℕ) → abi.registerOf s a ≡ 1))
-  refused-alone = board.refused-alone s kind byte count
+  refused-alone = refused.refused-alone s kind byte count
 
 -- a power-on tells 255 exactly if the lent state has another length, and then leaves it; else it is refused as the table says
 module _ (start s : List ℕ) where
   pub power-no-place : (powerOf start s .told ≡ 255) ↔ (length s ≡ 61 → ⊥)
-  power-no-place = board.power-no-place start s
+  power-no-place = runs.power-no-place start s
 
   pub power-stays : (length s ≡ 61 → ⊥) → powerOf start s ≡ lent 255 s
-  power-stays = board.power-stays start s
+  power-stays = runs.power-stays start s
 
   pub board-power-due : length s ≡ 61 → (n : ℕ) → (powerOf start s .told ≡ n) ↔ PowerDue start n
-  board-power-due = board.board-power-due start s
+  board-power-due = runs.board-power-due start s
 
   pub power-accepted : length s ≡ 61 → acceptedOf (powerOf start s .state) ≡ true
-  power-accepted = board.power-accepted start s
+  power-accepted = runs.power-accepted start s
 
 -- and so does a run; refused, it leaves every byte of the output and hands back the state of 19 zero bytes
 module _ (file out s : List ℕ) where
   pub run-no-place : (runRefusalIn (abi.runOf file out s .told) ≡ 255) ↔ (length s ≡ 61 → ⊥)
-  run-no-place = board.run-no-place file out s
+  run-no-place = runs.run-no-place file out s
 
   pub run-stays : (length s ≡ 61 → ⊥) → abi.runOf file out s ≡ lentRun 255 out s
-  run-stays = board.run-stays file out s
+  run-stays = runs.run-stays file out s
 
   pub board-run-due :
       length s ≡ 61 → (n i : ℕ) → let told = abi.runOf file out s .told in ((runRefusalIn told ≡ n) × (runIndexIn told ≡ i)) ↔ Due file (length out) n i
-  board-run-due = board.board-run-due file out s
+  board-run-due = runs.board-run-due file out s
 
   pub run-refused :
       length s ≡ 61 → let told = abi.runOf file out s .told in
       (runRefusalIn told ≡ 0 → ⊥) → abi.runOf file out s ≡ lentRun (runRefusalIn told + 65536 * runIndexIn told) out (bytesOf zeroStart)
-  run-refused = board.run-refused file out s
+  run-refused = runs.run-refused file out s
 
   pub run-accepted : length s ≡ 61 → acceptedOf (abi.runOf file out s .state) ≡ true
-  run-accepted = board.run-accepted file out s
+  run-accepted = runs.run-accepted file out s
 
 -- Promise 2: what is not refused does what the rules say, with nothing left free.
 
@@ -279,35 +282,35 @@ module _ (file out : List ℕ) (accepted : runOf file out .refusal ≡ 0) where
 -- a board's calls say what the chip's steps say, one by one and in a row, and leave the bytes of the states that these leave
 module _ (s : List ℕ) (each : (i : ℕ) → getD s i 0 < 256) (accepted : acceptedOf s ≡ true) where
   pub told-says : (kind byte count : ℕ) → saidIn (abi.stepOf s kind byte count .told) ≡ saidOf (stepOf (clockOf s) kind byte count)
-  told-says = board.told-says s each accepted
+  told-says = said.told-says s each accepted
 
   pub calls-tell : {es : List Event} → EventBytes es → map saidIn (toldIn s es) ≡ saidBy (clockOf s) es
-  calls-tell bytes = board.calls-tell s each accepted bytes
+  calls-tell bytes = said.calls-tell s each accepted bytes
 
   -- the pin and a register are the chip's
   pub pin-shown : saidIn (abi.pinOf s) ≡ record { refusal = 0; answer = 45 ∷ 45 ∷ []; pin = pinOf (clockOf s) }
-  pin-shown = board.pin-shown s accepted
+  pin-shown = refused.pin-shown s accepted
 
   pub register-shown : (a : ℕ) → saidIn (abi.registerOf s a) ≡ record { refusal = 0; answer = textOf (Byte (registerOf (clockOf s) a)); pin = pinOf (clockOf s) }
-  register-shown = board.register-shown s accepted each
+  register-shown = refused.register-shown s accepted each
 
 pub board-steps : (c : Clock) → Arrays c → wellFormedOf c ≡ true → (es : List Event) → afterIn (bytesOf c) es ≡ bytesOf (after step c es)
 board-steps = board.board-steps
 
 -- its power-on and its run are the chip's and the script's
 pub board-power : (start s : List ℕ) → length s ≡ 61 → powerOf start s ≡ lent (powerOnOf start .refusal) (bytesOf (powerOnOf start .state))
-board-power = board.board-power
+board-power = runs.board-power
 
 pub board-run :
     (file out s : List ℕ) → length s ≡ 61 → let r = runOf file out in
     abi.runOf file out s ≡ lentRun (r .refusal + 65536 * r .index + 4294967296 * r .count) (r .output) (bytesOf (r .state))
-board-run = board.board-run
+board-run = runs.board-run
 
 -- and the count that is told of a run is the file's
 pub run-counts :
     (file out s : List ℕ) → length s ≡ 61 → let told = abi.runOf file out s .told in
     runRefusalIn told ≡ 0 → runCountIn told ≡ headerWord file 0
-run-counts = board.run-counts
+run-counts = runs.run-counts
 
 -- Promise 3: a time that was set reads back as many seconds on as the pulses since make.
 

@@ -1,4 +1,7 @@
 pub mod AbiLaws
 pub mod ByteLaws
 pub mod BoundaryLaws
+pub mod SaidLaws
+pub mod RefusedLaws
+pub mod RunLaws
 pub mod Settled
