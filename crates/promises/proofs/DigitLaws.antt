@@ -16,7 +16,7 @@ use Rattle.events.specs.declared.answer.Answer.the-variants.{Byte}
 use Rattle.events.specs.Answer.{digitOf, textOf}
 use Rattle.sd2068.specs.Run.{readBy}
 use Rattle.sd2068_abi.specs.Said.{answerIn, byteIn, textIn, saidIn, readsSaid}
-use Rattle.sd2068_abi.proofs.ByteLaws.{Bytes}
+use Rattle.sd2068_abi.proofs.ByteLaws.{AllBytes}
 use Rattle.promises.specs.Ledger.{byteRead}
 use Rattle.promises.specs.Board.{bytesIn}
 use Rattle.promises.proofs.LedgerLaws.{hours-small, read-byte}
@@ -62,19 +62,19 @@ nothing (b ∷ bs) e = absurd (no-nil e)
 
 -- calls whose texts are those of bytes tell these bytes
 one-read :
-    (n : ℕ) (bs : List ℕ) (rest : List (List ℕ)) (told : List ℕ) → Bytes bs → textIn n ∷ rest ≡ texts bs
-    → ((cs : List ℕ) → Bytes cs → rest ≡ texts cs → told ≡ cs) → byteIn n ∷ told ≡ bs
+    (n : ℕ) (bs : List ℕ) (rest : List (List ℕ)) (told : List ℕ) → AllBytes bs → textIn n ∷ rest ≡ texts bs
+    → ((cs : List ℕ) → AllBytes cs → rest ≡ texts cs → told ≡ cs) → byteIn n ∷ told ≡ bs
 one-read n [] rest told small e go = absurd (no-nil (sym e))
-one-read n (b ∷ bs) rest told (Bytes.more h small) e go =
+one-read n (b ∷ bs) rest told (AllBytes.more h small) e go =
     λ i. text-byte n b h (ap (λ (l : List (List ℕ)). getD l 0 []) e) i ∷ go bs small (ap (drop 1) e) i
 
 by-read :
-    (read : Bool) (n : ℕ) (bs : List ℕ) (rest : List (List ℕ)) (told : List ℕ) → Bytes bs → cond read (textIn n ∷ rest) rest ≡ texts bs
-    → ((cs : List ℕ) → Bytes cs → rest ≡ texts cs → told ≡ cs) → cond read (byteIn n ∷ told) told ≡ bs
+    (read : Bool) (n : ℕ) (bs : List ℕ) (rest : List (List ℕ)) (told : List ℕ) → AllBytes bs → cond read (textIn n ∷ rest) rest ≡ texts bs
+    → ((cs : List ℕ) → AllBytes cs → rest ≡ texts cs → told ≡ cs) → cond read (byteIn n ∷ told) told ≡ bs
 by-read true n bs rest told small e go = one-read n bs rest told small e go
 by-read false n bs rest told small e go = go bs small e
 
-pub reads-bytes : (es : List Event) (ns bs : List ℕ) → Bytes bs → readsSaid es (map saidIn ns) ≡ texts bs → bytesIn es ns ≡ bs
+pub reads-bytes : (es : List Event) (ns bs : List ℕ) → AllBytes bs → readsSaid es (map saidIn ns) ≡ texts bs → bytesIn es ns ≡ bs
 unfolding readsSaid bytesIn
 reads-bytes [] ns bs small e = nothing bs e
 reads-bytes (q ∷ es) [] bs small e = nothing bs e
@@ -82,12 +82,12 @@ reads-bytes (q ∷ es) (n ∷ ns) bs small e =
     by-read (readBy q) n bs (readsSaid es (map saidIn ns)) (bytesIn es ns) small e (λ cs x y. reads-bytes es ns cs x y)
 
 -- the bytes of a legal time
-pub time-small : (t : Time) (k : ℕ) → Legal t k → Bytes (bytesOf t)
+pub time-small : (t : Time) (k : ℕ) → Legal t k → AllBytes (bytesOf t)
 time-small t k l =
     let m = number-moment t k (l .number) in
-    Bytes.more {x = t .seconds} (omega (arith, m .clock .seconds .tens))
-    (Bytes.more {x = t .minutes} (omega (arith, m .clock .minutes .tens))
-    (Bytes.more (hours-small (t .hours) (m .clock .hours))
-    (Bytes.more {x = t .weekday} (omega (arith, l .weekday))
-    (Bytes.more {x = t .day} (omega (arith, m .date .day .tens))
-    (Bytes.more {x = t .month} (omega (arith, m .date .month .tens)) (Bytes.more {x = t .year} (omega (arith, m .date .year .tens)) Bytes.none))))))
+    AllBytes.more {x = t .seconds} (omega (arith, m .clock .seconds .tens))
+    (AllBytes.more {x = t .minutes} (omega (arith, m .clock .minutes .tens))
+    (AllBytes.more (hours-small (t .hours) (m .clock .hours))
+    (AllBytes.more {x = t .weekday} (omega (arith, l .weekday))
+    (AllBytes.more {x = t .day} (omega (arith, m .date .day .tens))
+    (AllBytes.more {x = t .month} (omega (arith, m .date .month .tens)) (AllBytes.more {x = t .year} (omega (arith, m .date .year .tens)) AllBytes.none))))))

@@ -61,16 +61,16 @@ abbrev pub Byte : ℕ → Type 0
 Byte x = x < 256
 
 -- every number of a list is a byte
-pub data Bytes : List ℕ → Type 0 where
-  none : Bytes []
-  more : {x : ℕ} {l : List ℕ} → Byte x → Bytes l → Bytes (x ∷ l)
+pub data AllBytes : List ℕ → Type 0 where
+  none : AllBytes []
+  more : {x : ℕ} {l : List ℕ} → Byte x → AllBytes l → AllBytes (x ∷ l)
 
-pub at : {l : List ℕ} → Bytes l → (i d : ℕ) → Byte d → Byte (getD l i d)
+pub at : {l : List ℕ} → AllBytes l → (i d : ℕ) → Byte d → Byte (getD l i d)
 at none i d h = h
 at (more b bs) zero d h = b
 at (more b bs) (suc i) d h = at bs i d h
 
-put : {l : List ℕ} → Bytes l → (i b : ℕ) → Byte b → Bytes (set l i b)
+put : {l : List ℕ} → AllBytes l → (i b : ℕ) → Byte b → AllBytes (set l i b)
 put none i b h = none
 put (more x xs) zero b h = more h xs
 put (more x xs) (suc i) b h = more x (put xs i b h)
@@ -80,7 +80,7 @@ unfoldable pub below : List ℕ → Bool
 below [] = true
 below (x ∷ l) = ltb x 256 && below l
 
-pub tested : (l : List ℕ) → below l ≡ true → Bytes l
+pub tested : (l : List ℕ) → below l ≡ true → AllBytes l
 unfolding below
 tested [] e = none
 tested (x ∷ l) e = more (ltb-true x 256 (and-left (ltb x 256) (below l) e)) (tested l (and-right (ltb x 256) (below l) e))
@@ -118,7 +118,7 @@ stepped : (first last x : ℕ) → Byte first → Byte (digits.stepOf first last
 unfolding digits.stepOf
 stepped first last x h = picked Byte (legalOf first last x && ltb x last) (omega arith) h
 
-code-bytes : (m : HourMode) → Bytes (codes m)
+code-bytes : (m : HourMode) → AllBytes (codes m)
 unfolding codes below
 code-bytes Twelve = tested _ refl
 code-bytes TwentyFour = tested _ refl
@@ -133,7 +133,7 @@ next-hour h = at (code-bytes (modeOf h)) (hourNumberOf h + 1) (firstHour (modeOf
 
 -- the seven bytes of a time, or of the alarm's fields
 abbrev Seven : Time → Type 0
-Seven t = Bytes (bytesOf t)
+Seven t = AllBytes (bytesOf t)
 
 module _ (t : Time) (s : Seven t) where
   byte-at : (i : ℕ) → Byte (byteAtOf t i)
@@ -180,8 +180,8 @@ pub record Small (c : Clock) : Type 0 where
   ctr3 : Byte (c .control .ctr3)
   count : Byte (c .countdown .count)
   reload : Byte (c .countdown .reload)
-  ram : Bytes (c .ram)
-  latched : Bytes (c .latched)
+  ram : AllBytes (c .ram)
+  latched : AllBytes (c .latched)
 
 -- those of a state that bytes stand for
 pub decoded-small : (s : List ℕ) → ((i : ℕ) → Byte (getD s i 0)) → Small (decoded.clockOf s)
@@ -276,7 +276,7 @@ module _ (c : Clock) (s : Small c) (a b : ℕ) (h : Byte b) where
         ctr3 = picked Ctr3 (eqb a 0x10) (s .ctr3) (picked Ctr3 (eqb a 0x11) held (s .ctr3));
         count = picked Byte (eqb a 0x13) h (s .count);
         reload = picked Byte (eqb a 0x13) h (s .reload);
-        ram = picked Bytes (ltb a 0x14) (s .ram) (picked Bytes (ltb a 0x20) (put (s .ram) (a - 0x14) b h) (s .ram));
+        ram = picked AllBytes (ltb a 0x14) (s .ram) (picked AllBytes (ltb a 0x20) (put (s .ram) (a - 0x14) b h) (s .ram));
         latched = s .latched;
       }
   written-by false =
@@ -302,7 +302,7 @@ After e = Small (e .clock)
 
 module _ (c : Clock) (s : Small c) where
   -- with another latch and another bus
-  latch-small : (latched : List ℕ) (bus : Bus) → Bytes latched → Small (withBus (withLatched c latched) bus)
+  latch-small : (latched : List ℕ) (bus : Bus) → AllBytes latched → Small (withBus (withLatched c latched) bus)
   latch-small latched bus l =
       record {
         time = s .time;
@@ -326,7 +326,7 @@ module _ (c : Clock) (s : Small c) where
   sent-small Nothing ack = s
   sent-small (Register a) ack =
       latch-small (cond (renewsOf a) (bytesOf (c .hand .time)) (c .latched)) (reads.readOf (c .bus) ack .bus)
-      (picked Bytes (renewsOf a) (s .time) (s .latched))
+      (picked AllBytes (renewsOf a) (s .time) (s .latched))
 
   pulse-small : Small (pulseOf c)
   unfolding pulseOf hand.tickedOf alarm.rungOf countdown.countedOf
@@ -349,7 +349,7 @@ module _ (c : Clock) (s : Small c) where
   unfolding poweredOf below
   lost-small =
       let zero : Byte 0 = omega arith in
-      let zeros : Bytes (0 ∷ 0 ∷ 0 ∷ 0 ∷ 0 ∷ 0 ∷ 0 ∷ []) = tested _ refl in
+      let zeros : AllBytes (0 ∷ 0 ∷ 0 ∷ 0 ∷ 0 ∷ 0 ∷ 0 ∷ []) = tested _ refl in
       record {
         time = s .time;
         trim = zero;
