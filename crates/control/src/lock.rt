@@ -39,11 +39,15 @@ impl Lock {
         }
     }
 
-    // WRTC2 and WRTC3 are not without WRTC1. (rule 8.2)
+    // WRTC2 and WRTC3 are not without WRTC1; by a branch, for speed where bytes are judged. (rule 8.2)
     pub fn well_formed(self) -> bool
         ensures { λ r. ⌜ r ≡ wellOf self ⌝ }
     {
-        self.wrtc1 | !(self.wrtc2 | self.wrtc3)
+        if self.wrtc1 {
+            true
+        } else {
+            !(self.wrtc2 | self.wrtc3)
+        }
     }
 }
 

@@ -26,7 +26,8 @@ use Rattle.state_bytes.specs.Decoded.{clockOf}
 use Rattle.state_bytes.specs.Encoded.{bytesOf}
 use Rattle.state_events.proofs.ArrayLaws.{decoded-arrays, power-on-arrays, steps-arrays}
 use Rattle.sd2068_abi.specs.Abi.{acceptedOf, afterIn, toldIn, LentRun, runOf}
-use Rattle.sd2068_abi.specs.Said.{textIn, Said, saidIn, saidOf, saidBy, readsSaid}
+use Rattle.state_events.specs.Said.{textIn, Said, saidIn, saidOf}
+use Rattle.sd2068_abi.specs.Said.{saidBy, readsSaid}
 use Rattle.sd2068_abi.proofs.BoundaryLaws.{encoded-decoded, accepted-well, accepted-encoded, board-steps}
 use Rattle.sd2068_abi.proofs.SaidLaws.{calls-tell, reads-said}
 use Rattle.sd2068_abi.proofs.RunLaws.{board-run}

@@ -34,7 +34,7 @@ use Rattle.state_bytes.specs.Encoded.{bytesOf}
 use Rattle.state_bytes.specs.Shapes.{Arrays}
 use Rattle.state_events.proofs.ArrayLaws.{power-on-arrays, steps-arrays}
 use Rattle.sd2068_abi.specs.Said.{EventBytes}
-use Rattle.sd2068_abi.proofs.ByteLaws.{at, below, tested}
+use Rattle.state_events.proofs.ByteLaws.{at, below, tested}
 use Rattle.sd2068_abi.proofs.BoundaryLaws.{encoded-accepted, encoded-decoded}
 use Rattle.promises.specs.Board.{OnBoard}
 use Rattle.promises.proofs.Witness.{started, powered, unlocking, pointing, ready, set, witness, ready-well, stepped}

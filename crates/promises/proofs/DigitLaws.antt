@@ -15,8 +15,9 @@ use Rattle.events.specs.declared.event.Event.{Event}
 use Rattle.events.specs.declared.answer.Answer.the-variants.{Byte}
 use Rattle.events.specs.Answer.{digitOf, textOf}
 use Rattle.sd2068.specs.Run.{readBy}
-use Rattle.sd2068_abi.specs.Said.{answerIn, byteIn, textIn, saidIn, readsSaid}
-use Rattle.sd2068_abi.proofs.ByteLaws.{AllBytes}
+use Rattle.state_events.specs.Said.{answerIn, byteIn, textIn, saidIn}
+use Rattle.sd2068_abi.specs.Said.{readsSaid}
+use Rattle.state_events.proofs.ByteLaws.{AllBytes}
 use Rattle.promises.specs.Ledger.{byteRead}
 use Rattle.promises.specs.Board.{bytesIn}
 use Rattle.promises.proofs.LedgerLaws.{hours-small, read-byte}

@@ -57,8 +57,10 @@ use Rattle.state_bytes.specs.Decoded.{clockOf}
 use Rattle.state_bytes.specs.Encoded.{bytesOf}
 use Rattle.state_bytes.specs.Shapes.{Arrays}
 use Rattle.sd2068_abi.specs.Abi as abi
-use Rattle.sd2068_abi.specs.Abi.{lent, acceptedOf, powerOf, afterIn, toldIn, lentRun}
-use Rattle.sd2068_abi.specs.Said.{refusalIn, runRefusalIn, runIndexIn, runCountIn, Said, saidIn, saidOf, saidBy, EventBytes}
+use Rattle.state_events.specs.Event.{lent}
+use Rattle.sd2068_abi.specs.Abi.{acceptedOf, powerOf, afterIn, toldIn, lentRun}
+use Rattle.state_events.specs.Said.{refusalIn, Said, saidIn, saidOf}
+use Rattle.sd2068_abi.specs.Said.{runRefusalIn, runIndexIn, runCountIn, saidBy, EventBytes}
 use Rattle.sd2068_abi.proofs.BoundaryLaws as board
 use Rattle.sd2068_abi.proofs.SaidLaws as said
 use Rattle.sd2068_abi.proofs.RefusedLaws as refused

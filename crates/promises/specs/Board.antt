@@ -13,7 +13,8 @@ use Rattle.sd2068.specs.Run.{byte, step, after, readBy}
 use Rattle.sd2068.specs.Kept.{pulsesSince, Kept, untilAddress, readingOf, ReadsBack}
 use Rattle.state_bytes.specs.Decoded.{clockOf}
 use Rattle.sd2068_abi.specs.Abi.{acceptedOf, toldIn}
-use Rattle.sd2068_abi.specs.Said.{byteIn, textIn, saidIn, readsSaid, EventBytes}
+use Rattle.state_events.specs.Said.{byteIn, textIn, saidIn}
+use Rattle.sd2068_abi.specs.Said.{readsSaid, EventBytes}
 use Rattle.promises.specs.Ledger.{idOf}
 
 -- a time is set from a state on, and after any traffic a board reads it back by calls. It lends the bytes of the state after some of these events, made before by calls or by the run of a file; its calls are the others, one for each

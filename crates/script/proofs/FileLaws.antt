@@ -16,13 +16,21 @@ use Rattle.sd2068.specs.Power as power
 use Rattle.sd2068.specs.Power.{Power, startTime, zeroStart, powerOnOf}
 use Rattle.sd2068.specs.Step.{started}
 use Rattle.sd2068.specs.Run.{afterOf}
+use Rattle.sd2068.specs.WellFormed.{wellFormedOf}
+use Rattle.sd2068.proofs.WellLaws.{whole, power-on-well}
+use Rattle.state_bytes.specs.Decoded.{clockOf}
+use Rattle.state_bytes.specs.Encoded.{bytesOf}
+use Rattle.state_bytes.specs.Shapes.{Arrays}
+use Rattle.state_bytes.proofs.RoundLaws.{encoded-back}
+use Rattle.state_events.proofs.ArrayLaws.{power-on-arrays}
+use Rattle.state_events.proofs.TellLaws.{Stands, encoded-stands}
 use Rattle.script.specs.declared.header.Header.{Header}
 use Rattle.script.specs.Header.{headerOf}
 use Rattle.script.specs.Sections.{sectionsOf, sectionOf}
 use Rattle.script.specs.Event.{eventsIn}
 use Rattle.script.specs.Checks.{Found, foundAt, none, firstOf, startBytesOf, eventsOf, placedOf, checkedOf}
 use Rattle.script.specs.Lines.{linesOf}
-use Rattle.script.specs.File.{Run, eventsRun, goodOf, refusedOf, runOf}
+use Rattle.script.specs.File.{Run, canRun, eventsRun, goodOf, refusedOf, runOf}
 use Rattle.script.proofs.SearchLaws.{events-length}
 use Rattle.script.proofs.PartLaws.{ends, part, section-length}
 use Rattle.script.proofs.SectionLaws.{row5}
@@ -125,7 +133,7 @@ module _ (file : List ℕ) (h : Header) (room : ℕ) (g : Good file h room) wher
       let n : length s / 4 ≡ h .count = omega arith in
       events-length s 0 (length s / 4) ∙ n
 
-  pub events-room : length (take (h .events + h .count * 4 - h .events) (drop (h .events) file)) / 4 * 5 ≤ room
+  events-room : length (take (h .events + h .count * 4 - h .events) (drop (h .events) file)) / 4 * 5 ≤ room
   events-room =
       let l = ap length (part file (h .events) (h .count * 4)) ∙ section-length file (h .events) (h .count * 4) events-end in
       let e = g .enough in
@@ -140,18 +148,44 @@ module _ (file : List ℕ) (h : Header) (room : ℕ) (g : Good file h room) wher
   pub start-taken : (r : Started) → started r ≡ powerOnOf (take (h .start + 19 - h .start) (drop (h .start) file)) → r .clock ≡ power.startOf (startBytesOf file h)
   start-taken r on = ap (λ (p : Power). p .state) (on ∙ ap powerOnOf (part file (h .start) 19)) ∙ start-state
 
-  pub ran-good : (out : List ℕ) (c last : Clock) (exit : List ℕ) → c ≡ power.startOf (startBytesOf file h) → eventsRun c (eventsIn (take (h .events + h .count * 4 - h .events) (drop (h .events) file))) out last exit → _≡_ {A = Run} (record { refusal = 0; index = 0; count = h .count; state = last; output = exit }) (goodOf file h out)
-  unfolding goodOf
-  ran-good out c last exit begun run =
-      let es = eventsOf file h in
-      let in-part = ap eventsIn (part file (h .events) (h .count * 4)) in
-      let state : last ≡ afterOf (power.startOf (startBytesOf file h)) es = run .0 ∙ ap (afterOf c) in-part ∙ ap (λ (d : Clock). afterOf d es) begun in
-      let output : exit ≡ linesOf (power.startOf (startBytesOf file h)) es ++ drop (h .count * 5) out =
-      run .1
-      ∙ ap (λ (x : List Event). linesOf c x ++ drop (length x * 5) out) in-part
-      ∙ ap (λ (d : Clock). linesOf d es ++ drop (length es * 5) out) begun
-      ∙ ap (λ (n : ℕ). linesOf (power.startOf (startBytesOf file h)) es ++ drop (n * 5) out) events-count in
-      λ i. record { refusal = 0; index = 0; count = h .count; state = state i; output = output i }
+  -- what is asked of a run on the bytes of the first state
+  module _ (c : Clock) (state : List ℕ) (begun : c ≡ power.startOf (startBytesOf file h)) (encoded : state ≡ bytesOf c) where
+    abbrev part-events : List Event
+    part-events = eventsIn (take (h .events + h .count * 4 - h .events) (drop (h .events) file))
+
+    in-part : part-events ≡ eventsOf file h
+    in-part = ap eventsIn (part file (h .events) (h .count * 4))
+
+    powered-on : c ≡ powerOnOf (startBytesOf file h) .state
+    powered-on = begun ∙ sym start-state
+
+    c-well : wellFormedOf c ≡ true
+    c-well = subst (λ (d : Clock). wellFormedOf d ≡ true) (sym powered-on) (whole (powerOnOf (startBytesOf file h) .state) (power-on-well (startBytesOf file h)))
+
+    c-arrays : Arrays c
+    c-arrays = subst Arrays (sym powered-on) (power-on-arrays (startBytesOf file h))
+
+    back : clockOf state ≡ power.startOf (startBytesOf file h)
+    back = ap clockOf encoded ∙ encoded-back c c-arrays c-well ∙ begun
+
+    pub good-run : canRun state part-events (length (take (h .events + h .count * 4 - h .events) (drop (h .events) file)) / 4) room
+    good-run =
+        let stands = subst Stands (sym encoded) (encoded-stands c c-arrays c-well) in
+        (events-room, (ap (λ (es : List Event). firstOf es 0 .refusal) in-part ∙ g .events, (stands .well, stands .again)))
+
+    pub ran-good :
+        (out last : List ℕ) (d : Clock) (exit : List ℕ) → eventsRun state part-events out last exit → d ≡ clockOf last →
+        _≡_ {A = Run} (record { refusal = 0; index = 0; count = h .count; state = d; output = exit }) (goodOf file h out)
+    unfolding goodOf
+    ran-good out last d exit run decoded =
+        let es = eventsOf file h in
+        let c₀ = power.startOf (startBytesOf file h) in
+        let state : d ≡ afterOf c₀ es = decoded ∙ run .0 ∙ (λ i. afterOf (back i) (in-part i)) in
+        let output : exit ≡ linesOf c₀ es ++ drop (h .count * 5) out =
+        run .1
+        ∙ (λ i. linesOf (back i) (in-part i) ++ drop (length (in-part i) * 5) out)
+        ∙ ap (λ (n : ℕ). linesOf c₀ es ++ drop (n * 5) out) events-count in
+        λ i. record { refusal = 0; index = 0; count = h .count; state = state i; output = output i }
 
 -- the run goes by the checks
 pub run-accepted : (file out : List ℕ) → checkedOf file (length out) .refusal ≡ 0 → runOf file out ≡ goodOf file (headerOf file) out

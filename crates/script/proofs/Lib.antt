@@ -5,6 +5,7 @@ pub mod RowLaws
 pub mod SearchLaws
 pub mod PartLaws
 pub mod LineLaws
+pub mod TurnLaws
 pub mod FileLaws
 pub mod RunLaws
 pub mod RefusedLaws

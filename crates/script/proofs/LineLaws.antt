@@ -9,19 +9,16 @@ use native.Mathlib.Numerals.{add-one}
 use lib.Dec.{eqb}
 use lib.ListN.{length, getD, set, take, drop, length-append, length-drop, take-append-drop}
 use lib.Seq.{sets-eq, length-take-le, take-at, drop-at, drop-drop}
-use Rattle.control.specs.Pin.{letterOf}
 use Rattle.events.specs.declared.answer.Answer.{Answer}
 use Rattle.events.specs.declared.answer.Answer.the-variants.{Quiet, Ack, Nak, Byte}
 use Rattle.events.specs.declared.event.Event.{Event}
 use Rattle.events.specs.Answer.{textOf}
 use Rattle.sd2068.specs.declared.clock.Clock.{Clock}
 use Rattle.sd2068.specs.declared.answers.Answered.{Answered}
-use Rattle.sd2068.specs.declared.answers.Stepped.{Stepped}
-use Rattle.sd2068.specs.Step.{Told, quietOf, eventOf, refusalOf, stepped, stepOf}
+use Rattle.sd2068.specs.Step.{Told, quietOf, eventOf, refusalOf, stepOf}
 use Rattle.sd2068.specs.Run.{toldBy, after, afterOf}
 use Rattle.script.specs.Event.{eventAt, eventsFrom, eventsIn}
 use Rattle.script.specs.Lines.{lineOf, putOf, linesOf}
-use Rattle.script.specs.File.{eventsRun}
 use Rattle.script.proofs.SearchLaws.{events-length}
 
 -- an answer has two characters, and a line five
@@ -80,7 +77,7 @@ after-first c s at (suc k) h =
     let one : k ≡ suc k - 1 = omega arith in
     ap (λ (m : ℕ). afterOf (toldBy c (eventAt s at) .state) (eventsFrom s (at + 4) m)) one
 
-abbrev toldLine : Told → List ℕ
+abbrev pub toldLine : Told → List ℕ
 toldLine t = lineOf (t .answer) (t .pin)
 
 lines-first : (c : Clock) (s : List ℕ) (at left : ℕ) → 0 < left → linesOf c (eventsFrom s at left) ≡ toldLine (toldBy c (eventAt s at)) ++ linesOf (toldBy c (eventAt s at) .state) (eventsFrom s (at + 4) (left - 1))
@@ -131,14 +128,14 @@ module _ {s out₀ : List ℕ} {c₀ : Clock} {out : List ℕ} {c : Clock} {left
       omega arith
 
   -- one event: its step is told from the state, and its line is put
-  module _ (more : 0 < left) (e : Event) (event : e ≡ eventAt s at) (r : Stepped) (step : stepped r ≡ stepOf c (e .kind) (e .byte) (e .count)) where
-    told : stepped r ≡ toldBy c (eventAt s at)
-    told = step ∙ ap (toldBy c) event
+  module _ (more : 0 < left) where
+    abbrev told : Told
+    told = toldBy c (eventAt s at)
 
-    goes-on : Stage s out₀ c₀ (putOf out line (lineOf (textOf (r .answer)) (letterOf (r .pin)))) (r .clock) (left - 1) (at + 4) (line + 5)
+    goes-on : Stage s out₀ c₀ (putOf out line (toldLine told)) (told .state) (left - 1) (at + 4) (line + 5)
     goes-on =
-        let l = lineOf (textOf (r .answer)) (letterOf (r .pin)) in
-        let l5 = line-five (r .answer) (letterOf (r .pin)) in
+        let l = toldLine told in
+        let l5 = told-five c (eventAt s at) in
         let a = g .inside in
         let b = g .room in
         record {
@@ -146,14 +143,10 @@ module _ {s out₀ : List ℕ} {c₀ : Clock} {out : List ℕ} {c : Clock} {left
           room = omega arith;
           fits = g .fits;
           same = put-length out line l l5 (fits-line more) ∙ g .same;
-          state =
-              ap (λ (t : Told). afterOf (t .state) (eventsFrom s (at + 4) (left - 1))) told
-              ∙ sym (after-first c s at left more)
-              ∙ g .state;
+          state = sym (after-first c s at left more) ∙ g .state;
           lines =
-              ap (λ (x : List ℕ). x ++ linesOf (r .clock) (eventsFrom s (at + 4) (left - 1))) (put-take out line l l5 (fits-line more))
-              ∙ append-assoc (take line out) l (linesOf (r .clock) (eventsFrom s (at + 4) (left - 1)))
-              ∙ ap (λ (t : Told). take line out ++ (toldLine t ++ linesOf (t .state) (eventsFrom s (at + 4) (left - 1)))) told
+              ap (λ (x : List ℕ). x ++ linesOf (told .state) (eventsFrom s (at + 4) (left - 1))) (put-take out line l l5 (fits-line more))
+              ∙ append-assoc (take line out) l (linesOf (told .state) (eventsFrom s (at + 4) (left - 1)))
               ∙ ap (λ (x : List ℕ). take line out ++ x) (sym (lines-first c s at left more))
               ∙ g .lines;
           rest =
@@ -163,11 +156,18 @@ module _ {s out₀ : List ℕ} {c₀ : Clock} {out : List ℕ} {c : Clock} {left
               ∙ drop-drop 5 line out₀;
         }
 
-    pub turns : (next : List ℕ) → next ≡ putOf out line (lineOf (textOf (r .answer)) (letterOf (r .pin))) → Stage s out₀ c₀ next (r .clock) (left - 1) (at + 4) (line + 5)
-    turns next put = subst (λ (o : List ℕ). Stage s out₀ c₀ o (r .clock) (left - 1) (at + 4) (line + 5)) (sym put) goes-on
+    pub turns :
+        (next : List ℕ) (d : Clock) → next ≡ putOf out line (toldLine told) → d ≡ told .state → Stage s out₀ c₀ next d (left - 1) (at + 4) (line + 5)
+    turns next d put state =
+        subst (λ (o : List ℕ). Stage s out₀ c₀ o d (left - 1) (at + 4) (line + 5)) (sym put)
+        (subst (λ (x : Clock). Stage s out₀ c₀ (putOf out line (toldLine told)) x (left - 1) (at + 4) (line + 5)) (sym state) goes-on)
+
+-- what running events from a state leaves: the last state, and the lines with the output's rest
+abbrev pub AllRun : Clock → List Event → List ℕ → Clock → List ℕ → Type 0
+AllRun c es out last exit = (last ≡ afterOf c es) × (exit ≡ linesOf c es ++ drop (length es * 5) out)
 
 -- nothing is left: the lines stand, and behind them what stood there
-ends : {s out₀ : List ℕ} {c₀ : Clock} {out : List ℕ} {c : Clock} {at line : ℕ} → Stage s out₀ c₀ out c 0 at line → eventsRun c₀ (eventsIn s) out₀ c out
+ends : {s out₀ : List ℕ} {c₀ : Clock} {out : List ℕ} {c : Clock} {at line : ℕ} → Stage s out₀ c₀ out c 0 at line → AllRun c₀ (eventsIn s) out₀ c out
 unfolding after linesOf eventsIn
 ends {s} {out₀} {c₀} {out} {c} {at} {line} g =
     let end : line ≡ length (eventsIn s) * 5 = (let a = g .room in omega arith) ∙ ap (λ (n : ℕ). n * 5) (sym (events-length s 0 (length s / 4))) in (
@@ -177,6 +177,6 @@ ends {s} {out₀} {c₀} {out} {c} {at} {line} g =
           ∙ ap (λ (x : List ℕ). linesOf c₀ (eventsIn s) ++ x) (g .rest ∙ ap (λ (n : ℕ). drop n out₀) end),
     )
 
-pub ended : {s out₀ : List ℕ} {c₀ : Clock} {out : List ℕ} {c : Clock} {left at line : ℕ} → left ≤ 0 → Stage s out₀ c₀ out c left at line → eventsRun c₀ (eventsIn s) out₀ c out
+pub ended : {s out₀ : List ℕ} {c₀ : Clock} {out : List ℕ} {c : Clock} {left at line : ℕ} → left ≤ 0 → Stage s out₀ c₀ out c left at line → AllRun c₀ (eventsIn s) out₀ c out
 ended {left = zero} h g = ends g
 ended {left = suc k} h g = absurd (not-suc-le-zero h)

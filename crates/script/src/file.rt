@@ -6,14 +6,17 @@ use crate::lines::put_line;
 use events::Refusal;
 use sd2068::Clock;
 use sd2068::power_on;
+use state_bytes::bytes_of;
+use state_bytes::clock_of;
+use state_events::tell;
 ghost use mathlib.Core.Path.{_≡_};
-ghost use Prim.Native.Nat.{_*_, _/_, _≤_};
+ghost use Prim.Native.Nat.{_/_};
 ghost use lib.ListN.{length};
 ghost use Rattle.sd2068.specs.Power.{zeroStart};
 ghost use Rattle.script.specs.Header.{headerOf};
 ghost use Rattle.script.specs.Event.{eventsIn};
 ghost use Rattle.script.specs.Checks.{checkedOf};
-ghost use Rattle.script.specs.File.{eventsRun, goodOf, ran, runOf};
+ghost use Rattle.script.specs.File.{canRun, eventsRun, goodOf, ran, runOf};
 
 // What a run hands back.
 pub struct Ran {
@@ -23,27 +26,22 @@ pub struct Ran {
     pub clock: Clock,
 }
 
-// The events one after the other, a line for each. (rule 9.5)
-fn run_events(start: Clock, events: &[u8], out: &mut [u8]) -> Clock
-    requires { ⌜ length (now events) / 4 * 5 ≤ length (now out) ⌝ }
-    ensures { λ r. ⌜ eventsRun start (eventsIn (now (events .entry))) (now (out .entry)) r (now (out .exit)) ⌝ }
+// The events one after the other on a state's bytes, a line for each: the checks have seen them all. (rule 9.5)
+fn run_events(state: &mut [u8], events: &[u8], out: &mut [u8])
+    requires { ⌜ canRun (now state) (eventsIn (now events)) (length (now events) / 4) (length (now out)) ⌝ }
+    ensures { λ _. ⌜ eventsRun (now (state .entry)) (eventsIn (now (events .entry))) (now (out .entry)) (now (state .exit)) (now (out .exit)) ⌝ }
 {
-    let mut clock = start;
     let mut left = events.len() / 4;
     let mut at = 0;
     let mut line = 0;
     while 0 < left {
         let event = event_at(events, at);
-        let done = clock.step(event.kind, event.byte, event.count);
-        let answer = done.answer;
-        let pin = done.pin;
-        put_line(out, line, answer, pin);
-        clock = done.clock;
+        let told = tell(state, 0, event.kind, event.byte, event.count);
+        put_line(out, line, told);
         left = left - 1;
         at = at + 4;
         line = line + 5;
     }
-    clock
 }
 
 // What 19 zero bytes give: a refusal hands it back. (rule 8.4)
@@ -65,14 +63,16 @@ fn run_good(file: &[u8], out: &mut [u8]) -> Ran
     let end = start + 19;
     let started = power_on(&file[start..end]);
     let clock = started.clock;
+    let mut state = bytes_of(clock);
     let count = h.count as usize;
     let at = h.events as usize;
     let last = at + count * 4;
+    run_events(&mut state, &file[at..last], out);
     Ran {
         refusal: Refusal::None,
         index: 0,
         count,
-        clock: run_events(clock, &file[at..last], out),
+        clock: clock_of(&state),
     }
 }
 

@@ -1,37 +1,25 @@
 -- What a call tells and leaves, from what the functions below say. Assumes nothing.
-use mathlib.Core.Path.{_≡_, refl, sym, ap, _∙_}
+use mathlib.Core.Path.{_≡_, sym, ap, _∙_}
 use mathlib.Core.Bool.{Bool, true, false, cond, _&&_, and-false}
 use mathlib.Core.List.{List}
 use Prim.Native.Nat.{ℕ}
-use lib.Dec.{eqb}
 use lib.ListN.{length}
 use borrow.Author.Tests.{eq-eqb, ne-eqb, eqb-true}
 use Rattle.fields.proofs.FieldLaws.{and-left, and-right}
-use Rattle.fields.proofs.Picked.{picked}
-use Rattle.events.specs.declared.answer.Answer.{Answer}
-use Rattle.events.specs.declared.answer.Answer.the-variants.{Quiet}
 use Rattle.events.specs.Refusal.{numberOf, faultOf}
-use Rattle.sd2068.specs.declared.answers.Answered.{Answered}
 use Rattle.sd2068.specs.declared.answers.Started.{Started}
 use Rattle.sd2068.specs.Power.{Power, powerOnOf}
-use Rattle.sd2068.specs.Pin.{pinOf}
-use Rattle.sd2068.specs.Step.{quietOf, eventOf, refusalOf, started}
-use Rattle.sd2068.specs.WellFormed.{wellFormedOf}
-use Rattle.sd2068.proofs.WellLaws.{Well, parts, whole, event-well}
+use Rattle.sd2068.specs.Step.{started}
 use Rattle.script.specs.declared.file.Ran.{Ran}
 use Rattle.script.specs.File as script
 use Rattle.script.specs.File.{Run}
 use Rattle.state_bytes.specs.Decoded.{clockOf, isState}
 use Rattle.state_bytes.specs.Encoded.{bytesOf}
 use Rattle.state_bytes.specs.Shapes.{Bytes}
-use Rattle.state_bytes.proofs.RoundLaws.{decoded-well, decoded-again, pin-back}
 use Rattle.state_events.specs.Put.{putState}
-use Rattle.state_events.specs.Traffic.{Done, done}
-use Rattle.state_events.specs.Event.{eventIn, answeredIn}
-use Rattle.state_events.proofs.TrafficLaws.{doneBy}
-use Rattle.state_events.proofs.EventLaws.{event-left}
-use Rattle.sd2068_abi.specs.Told.{toldOf, ranOf}
-use Rattle.sd2068_abi.specs.Abi.{lent, lentRun, fullOf, acceptedOf, noPlace, powerOf, answeredOf, doneOf, stepOf, runOf}
+use Rattle.state_events.specs.Event.{lent, tellIn, doneOf}
+use Rattle.state_events.proofs.TellLaws.{decoded-stands, tell-done}
+use Rattle.sd2068_abi.specs.Abi.{ranOf, lentRun, fullOf, acceptedOf, noPlace, powerOf, stepOf, runOf}
 
 -- which bytes are accepted
 module _ (s : List ℕ) where
@@ -78,42 +66,16 @@ module _ (s : List ℕ) (kind byte count : ℕ) where
   step-refused e = sym (ap (λ (b : Bool). cond b (doneOf (clockOf s) kind byte count) (lent 1 s)) e)
 
   -- on bytes that are a state's, what is told and left is that of the event's state
-  module _ (bytes : Bytes s) (taken : isState s ≡ true) where
-    w : Well (clockOf s)
-    w = parts (clockOf s) (decoded-well s bytes taken)
-
-    number : faultOf kind byte count ≡ refusalOf (clockOf s) kind byte count
-    unfolding refusalOf
-    number = sym (ap (λ (b : Bool). cond b (faultOf kind byte count) 1) (decoded-well s bytes taken))
-
-    left-by :
-        (b : Bool) → eqb (faultOf kind byte count) 0 ≡ b →
-        cond b (eventIn s kind byte count) (done Quiet s) ≡ doneBy (cond b (eventOf (clockOf s) kind byte count) (quietOf (clockOf s)))
-    left-by true e = event-left s (decoded-again s bytes taken) w byte count kind (eqb-true (faultOf kind byte count) 0 e)
-    left-by false e = ap (done Quiet) (sym (decoded-again s bytes taken))
-
-    left : answeredIn s (faultOf kind byte count) kind byte count ≡ doneBy (answeredOf (clockOf s) kind byte count)
-    left =
-        left-by (eqb (faultOf kind byte count) 0) refl
-        ∙ ap (λ (n : ℕ). doneBy (cond (eqb n 0) (eventOf (clockOf s) kind byte count) (quietOf (clockOf s)))) number
-
-    kept : wellFormedOf (answeredOf (clockOf s) kind byte count .clock) ≡ true
-    kept =
-        whole (answeredOf (clockOf s) kind byte count .clock)
-        (picked (λ (a : Answered). Well (a .clock)) (eqb (refusalOf (clockOf s) kind byte count) 0) (event-well (clockOf s) w kind byte count) w)
-
-    pub step-told :
-        (r n level : ℕ) (answer : Answer) (out : List ℕ) → n ≡ faultOf kind byte count → done answer out ≡ answeredIn s n kind byte count →
-        level ≡ pinOf (clockOf out) → r ≡ toldOf n level answer → lent r out ≡ stepOf s kind byte count
-    unfolding stepOf doneOf acceptedOf
-    step-told r n level answer out fault said pin told =
-        let a = answeredOf (clockOf s) kind byte count in
-        let all : done answer out ≡ doneBy a = said ∙ ap (λ (m : ℕ). answeredIn s m kind byte count) fault ∙ left in
-        let bytes-left : out ≡ bytesOf (a .clock) = ap (λ (d : Done). d .state) all in
-        let shown : level ≡ pinOf (a .clock) = pin ∙ ap (λ (l : List ℕ). pinOf (clockOf l)) bytes-left ∙ pin-back (a .clock) kept in
-        let accepts : fullOf s && isState s ≡ true = λ i. eq-eqb (length s) 61 (bytes .long) i && taken i in
-        (λ i. lent ((told ∙ (λ j. toldOf ((fault ∙ number) j) (shown j) (all j .answer))) i) (bytes-left i))
-        ∙ sym (ap (λ (b : Bool). cond b (doneOf (clockOf s) kind byte count) (lent 1 s)) accepts)
+  pub step-told :
+      (r n : ℕ) (out : List ℕ) → Bytes s → isState s ≡ true → n ≡ faultOf kind byte count → lent r out ≡ tellIn s n kind byte count →
+      lent r out ≡ stepOf s kind byte count
+  unfolding stepOf acceptedOf
+  step-told r n out bytes taken fault said =
+      let accepts : fullOf s && isState s ≡ true = λ i. eq-eqb (length s) 61 (bytes .long) i && taken i in
+      said
+      ∙ ap (λ (m : ℕ). tellIn s m kind byte count) fault
+      ∙ tell-done s (decoded-stands s bytes taken) kind byte count
+      ∙ sym (ap (λ (b : Bool). cond b (doneOf (clockOf s) kind byte count) (lent 1 s)) accepts)
 
 -- a run
 pub run-told :

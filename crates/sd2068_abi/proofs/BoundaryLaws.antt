@@ -7,7 +7,6 @@ use lib.ListN.{getD}
 use Rattle.events.specs.declared.event.Event.{Event}
 use Rattle.sd2068.specs.declared.clock.Clock.{Clock}
 use Rattle.sd2068.specs.Step as steps
-use Rattle.sd2068.specs.Step.{Told}
 use Rattle.sd2068.specs.Run.{step, after}
 use Rattle.sd2068.specs.WellFormed.{wellFormedOf}
 use Rattle.sd2068.proofs.WellLaws.{step-keeps}
@@ -15,8 +14,10 @@ use Rattle.state_bytes.specs.Decoded.{clockOf}
 use Rattle.state_bytes.specs.Encoded.{bytesOf}
 use Rattle.state_bytes.specs.Shapes.{Arrays, Bytes}
 use Rattle.state_bytes.proofs.RoundLaws.{encoded-back, encoded-state, decoded-well, decoded-again}
+use Rattle.state_events.specs.Event.{Lent, lent, doneOf}
 use Rattle.state_events.proofs.ArrayLaws.{decoded-arrays, step-arrays}
-use Rattle.sd2068_abi.specs.Abi.{Lent, lent, fullOf, acceptedOf, doneOf, stepOf, afterIn}
+use Rattle.state_events.proofs.TellLaws.{done-state}
+use Rattle.sd2068_abi.specs.Abi.{fullOf, acceptedOf, stepOf, afterIn}
 use Rattle.sd2068_abi.proofs.AbiLaws.{accepted-full, accepted-state}
 
 -- the bytes of a well-formed state are accepted, and it comes back from them
@@ -43,15 +44,6 @@ module _ (s : List ℕ) (each : (i : ℕ) → getD s i 0 < 256) (e : acceptedOf 
   pub accepted-encoded : bytesOf (clockOf s) ≡ s
   accepted-encoded = decoded-again s bytes (accepted-state s e)
 
--- an event leaves the bytes of the state that the chip's step leaves
-module _ (c : Clock) (kind byte count : ℕ) where
-  abbrev chip : Told
-  chip = steps.stepOf c kind byte count
-
-  pub chip-state : doneOf c kind byte count .state ≡ bytesOf (chip .state)
-  unfolding doneOf steps.stepOf
-  chip-state = refl
-
 -- so a board that lends the bytes of a well-formed state has the chip's steps, however many
 pub board-step :
     (c : Clock) → Arrays c → wellFormedOf c ≡ true → (kind byte count : ℕ) → stepOf (bytesOf c) kind byte count ≡ doneOf c kind byte count
@@ -65,7 +57,7 @@ unfolding afterIn after
 board-steps c a w [] = refl
 board-steps c a w (e ∷ es) =
     ap (λ (l : Lent). afterIn (l .state) es) (board-step c a w (e .kind) (e .byte) (e .count))
-    ∙ ap (λ (l : List ℕ). afterIn l es) (chip-state c (e .kind) (e .byte) (e .count))
+    ∙ ap (λ (l : List ℕ). afterIn l es) (done-state c (e .kind) (e .byte) (e .count))
     ∙ board-steps (step c e .state) (step-arrays c a (e .kind) (e .byte) (e .count)) (step-keeps c w (e .kind) (e .byte) (e .count)) es
 
 -- which the next call accepts

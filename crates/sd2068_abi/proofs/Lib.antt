@@ -1,5 +1,4 @@
 pub mod AbiLaws
-pub mod ByteLaws
 pub mod BoundaryLaws
 pub mod SaidLaws
 pub mod RefusedLaws

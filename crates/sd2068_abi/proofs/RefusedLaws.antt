@@ -24,13 +24,13 @@ use Rattle.sd2068.proofs.ListedLaws.{well-listed}
 use Rattle.sd2068.proofs.RowLaws.{step-due}
 use Rattle.state_bytes.specs.Decoded.{clockOf, plainOf, isState}
 use Rattle.state_bytes.specs.Encoded.{bytesOf}
-use Rattle.sd2068_abi.specs.Told.{toldOf}
-use Rattle.sd2068_abi.specs.Abi.{Lent, lent, fullOf, acceptedOf, answeredOf, doneOf, stepOf, seenOf, pinOf, registerOf}
-use Rattle.sd2068_abi.specs.Said.{refusalIn, saidIn}
+use Rattle.state_events.specs.Said.{toldOf, refusalIn, saidIn}
+use Rattle.state_events.specs.Event.{Lent, lent, answeredOf, doneOf}
+use Rattle.state_events.proofs.ByteLaws.{decoded-small, register-byte, pin-byte, refusal-byte}
+use Rattle.state_events.proofs.SaidLaws.{told-refusal, said-back}
+use Rattle.sd2068_abi.specs.Abi.{fullOf, acceptedOf, stepOf, seenOf, pinOf, registerOf}
 use Rattle.sd2068_abi.proofs.AbiLaws.{accepted-state, step-refused}
-use Rattle.sd2068_abi.proofs.ByteLaws.{decoded-small, register-byte, pin-byte, refusal-byte}
 use Rattle.sd2068_abi.proofs.BoundaryLaws.{accepted-encoded}
-use Rattle.sd2068_abi.proofs.SaidLaws.{told-refusal, said-back}
 
 -- a step that is refused leaves the bytes as they are
 module _ (s : List ℕ) (each : (i : ℕ) → getD s i 0 < 256) (kind byte count : ℕ) where

@@ -7,7 +7,8 @@ use denote.Ref.{now}
 use denote.Triple.Clauses.{AtExit}
 use borrow.Fn.Kinds.{Dens, resT, endedOf}
 use Rattle.fields.proofs.Settles.{Settles, settled}
-use Rattle.sd2068_abi.specs.Abi.{Lent, lent, LentRun}
+use Rattle.state_events.specs.Event.{Lent, lent}
+use Rattle.sd2068_abi.specs.Abi.{LentRun}
 use Rattle.sd2068_abi.proofs.tallowreed_state_size.Kinds as size-kinds
 use Rattle.sd2068_abi.proofs.tallowreed_state_size.Reads as size-reads
 use Rattle.sd2068_abi.proofs.tallowreed_power_on.Kinds as power-kinds

@@ -1,31 +1,22 @@
 -- What each function of the boundary tells, and what it leaves in the bytes that it is lent. (rules 10.1 and 10.3 to 10.8)
 use mathlib.Core.Bool.{Bool, cond, _&&_}
 use mathlib.Core.List.{List, [], _∷_}
-use Prim.Native.Nat.{ℕ}
+use Prim.Native.Nat.{ℕ, _+_, _*_, _%_}
 use lib.Dec.{eqb}
 use lib.ListN.{length}
 use Rattle.events.specs.declared.answer.Answer.{Answer}
 use Rattle.events.specs.declared.answer.Answer.the-variants.{Quiet, Byte}
 use Rattle.events.specs.declared.event.Event.{Event}
 use Rattle.sd2068.specs.declared.clock.Clock.{Clock}
-use Rattle.sd2068.specs.declared.answers.Answered.{Answered}
 use Rattle.sd2068.specs.Power.{powerOnOf}
 use Rattle.sd2068.specs.Pin as pin
 use Rattle.sd2068.specs.Reading as reading
-use Rattle.sd2068.specs.Step.{quietOf, eventOf, refusalOf}
 use Rattle.sd2068.specs.WellFormed.{wellFormedOf}
 use Rattle.script.specs.File as script
 use Rattle.state_bytes.specs.Decoded.{clockOf, plainOf, isState}
 use Rattle.state_bytes.specs.Encoded.{bytesOf}
-use Rattle.sd2068_abi.specs.Told.{toldOf, ranOf}
-
--- a number that is told, and the bytes that are left
-pub record Lent : Type 0 where
-  pub told : ℕ
-  pub state : List ℕ
-
-abbrev pub lent : ℕ → List ℕ → Lent
-lent told state = record { told = told; state = state }
+use Rattle.state_events.specs.Said.{toldOf}
+use Rattle.state_events.specs.Event.{Lent, lent, doneOf}
 
 -- bytes of the length of a state
 abbrev pub fullOf : List ℕ → Bool
@@ -44,16 +35,6 @@ unfoldable pub powerOf : List ℕ → List ℕ → Lent
 powerOf start s =
     let on = powerOnOf start in
     cond (fullOf s) (lent (on .refusal) (bytesOf (on .state))) (lent noPlace s)
-
--- the event, or nothing where its fields are refused
-abbrev pub answeredOf : Clock → ℕ → ℕ → ℕ → Answered
-answeredOf c kind byte count = cond (eqb (refusalOf c kind byte count) 0) (eventOf c kind byte count) (quietOf c)
-
--- one event on a state
-unfoldable pub doneOf : Clock → ℕ → ℕ → ℕ → Lent
-doneOf c kind byte count =
-    let a = answeredOf c kind byte count in
-    lent (toldOf (refusalOf c kind byte count) (pin.pinOf (a .clock)) (a .answer)) (bytesOf (a .clock))
 
 -- one event on bytes: refusal 1 for those that are no state's, which stay
 unfoldable pub stepOf : List ℕ → ℕ → ℕ → ℕ → Lent
@@ -80,6 +61,10 @@ pinOf s = cond (fullOf s) (seenOf s (clockOf s) Quiet) 1
 -- a register as it stands
 unfoldable pub registerOf : List ℕ → ℕ → ℕ
 registerOf s a = cond (fullOf s) (seenOf s (clockOf s) (Byte (reading.registerOf (clockOf s) a))) 1
+
+-- refusal, index and count of a run, two bytes each from the low ones
+abbrev pub ranOf : ℕ → ℕ → ℕ → ℕ
+ranOf refusal index count = refusal + 65536 * (index % 65536) + 4294967296 * (count % 65536)
 
 -- a run: what is told, the output, the state
 pub record LentRun : Type 0 where

@@ -1,6 +1,5 @@
 // The boundary for boards in C and Rust: include/tallowreed.h says it for C. (rules 10.1 to 10.8)
-use crate::told::ran;
-use crate::told::told;
+use crate::ran::ran;
 use events::Answer;
 use events::fault;
 use script::run;
@@ -9,14 +8,15 @@ use sd2068::power_on;
 use state_bytes::bytes_of;
 use state_bytes::clock_of;
 use state_bytes::is_state;
-use state_bytes::pin_of;
 use state_bytes::plain;
-use state_events::answered;
 use state_events::put_state;
+use state_events::tell;
+use state_events::told;
 ghost use mathlib.Core.Path.{_≡_};
-ghost use Rattle.sd2068_abi.specs.Abi.{lent, lentRun, powerOf, stepOf, seenOf, pinOf, registerOf, runOf};
+ghost use Rattle.state_events.specs.Event.{lent};
+ghost use Rattle.sd2068_abi.specs.Abi.{lentRun, powerOf, stepOf, seenOf, pinOf, registerOf, runOf};
 
-mod told;
+mod ran;
 
 // Told where the lent state has no place for 61 bytes; no refusal has this number. (rules 10.4 and 10.8)
 const NO_PLACE: u8 = 255;
@@ -56,9 +56,7 @@ pub extern "C" fn tallowreed_step(state: &mut [u8], kind: u8, byte: u8, count: u
         return 1;
     }
     let refusal = fault(kind, byte, count);
-    let number = refusal.number();
-    let answer = answered(state, number, kind, byte, count);
-    told(number, pin_of(state), answer)
+    tell(state, refusal.number(), kind, byte, count)
 }
 
 // The pin. (rule 10.6)

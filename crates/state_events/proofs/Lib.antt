@@ -3,4 +3,7 @@ pub mod CopyLaws
 pub mod TrafficLaws
 pub mod WriteLaws
 pub mod EventLaws
+pub mod ByteLaws
+pub mod SaidLaws
+pub mod TellLaws
 pub mod Settled

@@ -3,12 +3,18 @@ use mathlib.Core.Bool.{cond}
 use mathlib.Core.List.{List}
 use Prim.Native.Nat.{ℕ}
 use lib.Dec.{eqb, ltb}
+use lib.ListN.{length}
 use Rattle.events.specs.declared.answer.Answer.the-variants.{Quiet}
+use Rattle.sd2068.specs.declared.clock.Clock.{Clock}
+use Rattle.sd2068.specs.declared.answers.Answered.{Answered}
+use Rattle.sd2068.specs.Pin.{pinOf}
 use Rattle.sd2068.specs.Step as step
+use Rattle.sd2068.specs.Step.{quietOf, eventOf, refusalOf}
 use Rattle.state_bytes.specs.Decoded.{clockOf}
 use Rattle.state_bytes.specs.Encoded.{bytesOf}
 use Rattle.state_events.specs.Put.{putState}
 use Rattle.state_events.specs.Traffic.{Done, done, startedIn, stoppedIn, heardIn, readIn}
+use Rattle.state_events.specs.Said.{toldOf}
 
 -- by way of the whole state
 abbrev pub steppedIn : List ℕ → ℕ → ℕ → ℕ → List ℕ
@@ -26,3 +32,26 @@ eventIn s kind byte count =
 -- the event, or nothing where its fields are refused
 abbrev pub answeredIn : List ℕ → ℕ → ℕ → ℕ → ℕ → Done
 answeredIn s refusal kind byte count = cond (eqb refusal 0) (eventIn s kind byte count) (done Quiet s)
+
+-- a number that is told, and the bytes that are left
+pub record Lent : Type 0 where
+  pub told : ℕ
+  pub state : List ℕ
+
+abbrev pub lent : ℕ → List ℕ → Lent
+lent told state = record { told = told; state = state }
+
+-- that, told with the pin that it leaves; bytes of another length stay, and are told 1
+unfoldable pub tellIn : List ℕ → ℕ → ℕ → ℕ → ℕ → Lent
+tellIn s refusal kind byte count =
+    let d = answeredIn s refusal kind byte count in
+    cond (eqb (length s) 61) (lent (toldOf refusal (pinOf (clockOf (d .state))) (d .answer)) (d .state)) (lent 1 s)
+
+-- the same of a state: the event, or nothing where it is refused
+abbrev pub answeredOf : Clock → ℕ → ℕ → ℕ → Answered
+answeredOf c kind byte count = cond (eqb (refusalOf c kind byte count) 0) (eventOf c kind byte count) (quietOf c)
+
+unfoldable pub doneOf : Clock → ℕ → ℕ → ℕ → Lent
+doneOf c kind byte count =
+    let a = answeredOf c kind byte count in
+    lent (toldOf (refusalOf c kind byte count) (pinOf (a .clock)) (a .answer)) (bytesOf (a .clock))

@@ -2,8 +2,10 @@
 mod event;
 mod lent;
 mod put;
+mod said;
 mod traffic;
 mod written;
 
-pub use event::answered;
+pub use event::tell;
 pub use lent::put_state;
+pub use said::told;

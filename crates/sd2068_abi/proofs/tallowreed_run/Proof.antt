@@ -3,7 +3,7 @@ use mathlib.Core.Path.{ap, _∙_}
 use mathlib.Core.List.{List}
 use Prim.Native.Nat.{ℕ}
 use Rattle.script.specs.declared.file.Ran.{Ran}
-use Rattle.sd2068_abi.specs.Told.{ranOf}
+use Rattle.sd2068_abi.specs.Abi.{ranOf}
 use Rattle.sd2068_abi.proofs.AbiLaws.{put-full, run-told, run-other}
 use borrow.Author.Needs.{needs}
 use Rattle.sd2068_abi.proofs.tallowreed_run.Statement.{statement}

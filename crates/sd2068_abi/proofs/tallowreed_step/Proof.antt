@@ -32,24 +32,18 @@ fault-requires c κs = tt
 number-requires : tie.Need-number-requires
 number-requires c κs = tt
 
-answered-requires : tie.Need-answered-requires
-answered-requires c κs = tt
-
-pin-of-requires : tie.Need-pin-of-requires
-pin-of-requires c κs = tt
-
-told-requires : tie.Need-told-requires
-told-requires c κs = tt
+tell-requires : tie.Need-tell-requires
+tell-requires c κs = tt
 
 same-length-2 : tie.Need-same-length-2
 same-length-2 c = search needs
 
 returns-3 : tie.Need-returns-3
 returns-3 c =
-    let s : List ℕ = c .before .before .before .before .before .before .before .before .before .before .before .before .before .before .args .state .now in
-    let bytes : Bytes s = record { long = c .before .before .before .before .before .before .before .before .before .before .before .before .if1 .left; each = λ i. omega (arith, c .before .before .before .before .before .before .before .before .before .before .before .before .before .slice-known .given i) } in
-    let taken : isState s ≡ true = sym (c .before .before .before .before .before .before .before .before .before .before .is-state .ensures) ∙ turned-false (c .before .before .before .before .before .before .before .before .before .before .is-state .result) (c .before .before .before .before .before .before .before .before .before .if2 .left) in
-    step-told s _ _ _ bytes taken _ _ _ _ _ (c .before .before .before .before .before .before .before .number .ensures ∙ c .before .before .before .before .before .before .before .before .fault .ensures) (c .before .before .before .before .before .answered .ensures) (c .before .pin-of .ensures) (c .told .ensures)
+    let s : List ℕ = c .before .before .before .before .before .before .before .before .before .before .before .args .state .now in
+    let bytes : Bytes s = record { long = c .before .before .before .before .before .before .before .before .before .if1 .left; each = λ i. omega (arith, c .before .before .before .before .before .before .before .before .before .before .slice-known .given i) } in
+    let taken : isState s ≡ true = sym (c .before .before .before .before .before .before .before .is-state .ensures) ∙ turned-false (c .before .before .before .before .before .before .before .is-state .result) (c .before .before .before .before .before .before .if2 .left) in
+    step-told s _ _ _ _ _ _ bytes taken (c .before .before .before .number .ensures ∙ c .before .before .before .before .before .fault .ensures) (c .before .before .tell .ensures)
 
 pub tallowreed-step-spec : {M : Type 1} → statement M
 tallowreed-step-spec =
@@ -61,8 +55,6 @@ tallowreed-step-spec =
     returns-2
     fault-requires
     number-requires
-    answered-requires
-    pin-of-requires
-    told-requires
+    tell-requires
     same-length-2
     returns-3)

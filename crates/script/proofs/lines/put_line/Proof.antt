@@ -1,16 +1,25 @@
 -- Five stores in a row put the line. Assumes nothing.
+use mathlib.Core.Path.{ap, _∙_}
+use mathlib.Core.List.{List}
+use Prim.Native.Nat.{ℕ}
 use native.Mathlib.Omega.{arith}
 use lib.ListN.{length-set}
+use Rattle.events.specs.declared.answer.Answer.{Answer}
+use Rattle.state_events.specs.Said.{pinIn}
+use Rattle.script.specs.Lines.{lineOf, putOf}
 use Rattle.script.proofs.LineLaws.{line-put}
 use borrow.Author.Needs.{needs}
 use Rattle.script.proofs.lines.put_line.Statement.{statement}
 use Rattle.script.proofs.lines.put_line.Tie as tie
 
+answer-in-requires : tie.Need-answer-in-requires
+answer-in-requires c κs = tt
+
 text-requires : tie.Need-text-requires
 text-requires c κs = tt
 
-letter-requires : tie.Need-letter-requires
-letter-requires c κs = tt
+cast-letter : tie.Need-cast-letter
+cast-letter c = search needs
 
 add-second : tie.Need-add-second
 add-second c = search needs
@@ -49,14 +58,19 @@ same-length : tie.Need-same-length
 same-length c = search needs
 
 returns : tie.Need-returns
-returns c = simp (c .letter .ensures, c .before .text .ensures) (line-put (c .before .before .before .args .out .now) (c .before .before .before .args .at) (c .before .before .before .args .answer) _ (omega arith))
+returns c =
+    let out : List ℕ = c .before .before .before .args .out .now in
+    let at : ℕ = c .before .before .before .args .at in
+    let answer : Answer = c .before .answer-in .result in
+    simp (c .text .ensures) (line-put out at answer _ (omega arith)) ∙ ap (λ (l : List ℕ). putOf out at (lineOf l (pinIn (c .before .before .before .args .told)))) (c .before .answer-in .ensures)
 
 pub put-line-spec : {M : Type 1} → statement M
 put-line-spec =
     tie.close
     (tie.spec
+    answer-in-requires
     text-requires
-    letter-requires
+    cast-letter
     add-second
     add-space
     add-level

@@ -55,7 +55,7 @@ use Rattle.sd2068.specs.Transfer.{startedOf, stoppedOf, effectedBy, byteOf, ren
 use Rattle.sd2068.specs.WellFormed.{wellFormedOf}
 use Rattle.sd2068.specs.Step.{eventOf, refusalOf, stepOf}
 use Rattle.state_bytes.specs.Decoded as decoded
-use Rattle.sd2068_abi.specs.Told.{answerByte}
+use Rattle.state_events.specs.Said.{answerByte}
 
 abbrev pub Byte : ℕ → Type 0
 Byte x = x < 256

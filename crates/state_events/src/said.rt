@@ -1,9 +1,9 @@
-// What the boundary tells in one number. (rules 10.5 and 10.8)
+// What is told of an event in one number. (rule 10.5)
 use control::Level;
 use events::Answer;
 ghost use mathlib.Core.Path.{_≡_};
 ghost use Rattle.control.specs.Pin.{letterOf};
-ghost use Rattle.sd2068_abi.specs.Told.{answerNumber, answerByte, fourOf, toldOf, ranOf};
+ghost use Rattle.state_events.specs.Said.{answerNumber, answerByte, fourOf, toldOf};
 
 fn answer_number(answer: Answer) -> u8
     ensures { λ r. ⌜ r ≡ answerNumber answer ⌝ }
@@ -34,7 +34,7 @@ fn four(a: u8, b: u8, c: u8, d: u8) -> u32
 }
 
 // Refusal, pin and answer of an event. (rule 10.5)
-pub(crate) fn told(refusal: u8, pin: Level, answer: Answer) -> u32
+pub fn told(refusal: u8, pin: Level, answer: Answer) -> u32
     ensures { λ r. ⌜ r ≡ toldOf refusal (letterOf pin) answer ⌝ }
 {
     four(
@@ -43,11 +43,4 @@ pub(crate) fn told(refusal: u8, pin: Level, answer: Answer) -> u32
         answer_byte(answer),
         answer_number(answer),
     )
-}
-
-// Refusal, index and count of a run. (rule 10.8)
-pub(crate) fn ran(refusal: u8, index: usize, count: usize) -> u64
-    ensures { λ r. ⌜ r ≡ ranOf refusal index count ⌝ }
-{
-    refusal as u64 + 65536 * (index as u64 % 65536) + 4294967296 * (count as u64 % 65536)
 }

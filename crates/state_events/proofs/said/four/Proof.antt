@@ -1,7 +1,7 @@
 -- The sum is the definition's, and four bytes do not overflow it. Assumes nothing.
 use borrow.Author.Needs.{needs}
-use Rattle.sd2068_abi.proofs.told.four.Statement.{statement}
-use Rattle.sd2068_abi.proofs.told.four.Tie as tie
+use Rattle.state_events.proofs.said.four.Statement.{statement}
+use Rattle.state_events.proofs.said.four.Tie as tie
 
 mul-result : tie.Need-mul-result
 mul-result c = search needs
