@@ -1,4 +1,5 @@
 pub mod MomentLaws
+pub mod LentLaws
 pub mod WeekdayLaws
 pub mod AdvanceLaws
 pub mod LaterLaws

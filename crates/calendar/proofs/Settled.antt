@@ -21,6 +21,10 @@ use Rattle.calendar.proofs.time.Time.number.Kinds as number-kinds
 use Rattle.calendar.proofs.time.Time.number.Reads as number-reads
 use Rattle.calendar.proofs.numbers.time_at.Kinds as time-at-kinds
 use Rattle.calendar.proofs.numbers.time_at.Reads as time-at-reads
+use Rattle.calendar.proofs.time.Time.number_in.Kinds as number-in-kinds
+use Rattle.calendar.proofs.time.Time.number_in.Reads as number-in-reads
+use Rattle.calendar.proofs.lent.time_in.Kinds as time-in-kinds
+use Rattle.calendar.proofs.lent.time_in.Reads as time-in-reads
 use Rattle.calendar.proofs.time.Time.later.Kinds as later-kinds
 use Rattle.calendar.proofs.time.Time.later.Reads as later-reads
 
@@ -56,8 +60,14 @@ advanced-settles κs a e f x y = settled (λ z. z) (λ z. z) (λ z. refl)
 pub number-settles : Settles 0 number-kinds.ps number-kinds.r number-reads.Post
 number-settles κs a e f x y = settled secondNumber number-back number-again
 
+pub number-in-settles : Settles 1 number-in-kinds.ps number-in-kinds.r number-in-reads.Post
+number-in-settles κs a e f x y = settled secondNumber number-back number-again
+
 pub time-at-settles : Settles 0 time-at-kinds.ps time-at-kinds.r time-at-reads.Post
 time-at-settles κs a e f x y = settled timeFound time-back time-again
+
+pub time-in-settles : Settles 1 time-in-kinds.ps time-in-kinds.r time-in-reads.Post
+time-in-settles κs a e f x y = settled timeFound time-back time-again
 
 pub later-settles : Settles 0 later-kinds.ps later-kinds.r later-reads.Post
 later-settles κs a e f x y = settled timeFound time-back time-again

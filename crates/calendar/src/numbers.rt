@@ -9,6 +9,8 @@ use fields::mode;
 use fields::time_of_day;
 ghost use mathlib.Core.Path.{_≡_};
 ghost use Rattle.calendar.specs.Numbers.{numberOf, timeAtOf, daysOnOf, laterOf, secondNumber, timeFound};
+ghost use Rattle.calendar.specs.Lent.{secondFrom, timeOn};
+ghost use Rattle.dates.specs.Dates.{dayNumber, dateFound};
 
 // The seconds of a century: 36,525 days. (rule 3.12)
 const CENTURY: u64 = 3155760000;
@@ -30,15 +32,8 @@ impl Time {
     pub fn number(self) -> SecondNumber
         ensures { λ r. ⌜ secondNumber r ≡ numberOf self ⌝ }
     {
-        let DayNumber::Day(d) = self.date().number() else {
-            return SecondNumber::None;
-        };
-        let clock = self.clock();
-        if clock.legal_time() {
-            SecondNumber::Second(d * 86400 + clock.second() as u64)
-        } else {
-            SecondNumber::None
-        }
+        let c = self.clock();
+        second_from(self.date().number(), c.legal_time(), c.second())
     }
 
     // The time n seconds on. (rule 3.16)
@@ -68,7 +63,29 @@ impl Time {
 pub fn time_at(n: u64, m: HourMode, weekday: u8) -> TimeFound
     ensures { λ r. ⌜ timeFound r ≡ timeAtOf n m weekday ⌝ }
 {
-    let DateFound::On(d) = date_at(n / 86400) else {
+    time_on(date_at(n / 86400), n, m, weekday)
+}
+
+// The second number from a day number and a second of the day, if legal; a lent table may name a day past the century.
+pub(crate) fn second_from(day: DayNumber, legal: bool, second: u32) -> SecondNumber
+    ensures { λ r. ⌜ secondNumber r ≡ secondFrom (dayNumber day) legal second ⌝ }
+{
+    let DayNumber::Day(d) = day else {
+        return SecondNumber::None;
+    };
+    if d < 36525 {
+        if legal {
+            return SecondNumber::Second(d * 86400 + second as u64);
+        }
+    }
+    SecondNumber::None
+}
+
+// The time on a date, if there is one, n seconds after a midnight, whole days left out.
+pub(crate) fn time_on(found: DateFound, n: u64, m: HourMode, weekday: u8) -> TimeFound
+    ensures { λ r. ⌜ timeFound r ≡ timeOn (dateFound found) n m weekday ⌝ }
+{
+    let DateFound::On(d) = found else {
         return TimeFound::None;
     };
     let c = time_of_day(m, (n % 86400) as u32);

@@ -1,8 +1,11 @@
-// Turns drawn second numbers into times and back, as many as standard input asks for, and prints a digest of all of it.
+// Turns drawn second numbers into times and back, and prints a digest of all of it. Standard input asks once or twice:
+// a seed and a count of four bytes each, and a byte, 1 for all by one table and else each conversion by itself.
 use calendar::SecondNumber;
 use calendar::Time;
 use calendar::TimeFound;
 use calendar::time_at;
+use calendar::time_in;
+use dates::first_days;
 use fields::HourMode;
 use libc::STDIN_FILENO;
 use libc::STDOUT_FILENO;
@@ -40,16 +43,20 @@ fn mix_time(digest: u32, t: Time) -> u32 {
 }
 
 // A time, and the number that it has.
-fn mix_both(digest: u32, t: Time) -> u32 {
-    let SecondNumber::Second(n) = t.number() else {
+fn mix_both(digest: u32, t: Time, number: SecondNumber) -> u32 {
+    let SecondNumber::Second(n) = number else {
         return digest;
     };
     mix(mix_time(digest, t), n)
 }
 
+fn draw(drawn: u32) -> u32 {
+    ((drawn as u64 * 1664525 + 1013904223) % 4294967296) as u32
+}
+
 impl Round {
     fn next(self) -> Round {
-        let drawn = ((self.drawn as u64 * 1664525 + 1013904223) % 4294967296) as u32;
+        let drawn = draw(self.drawn);
         let digest = self.digest;
         let mode = mode_of(drawn);
         let TimeFound::At(t) = time_at(drawn as u64 % 3155760000, mode, 0) else {
@@ -57,11 +64,25 @@ impl Round {
         };
         Round {
             drawn,
-            digest: mix_both(digest, t),
+            digest: mix_both(digest, t, t.number()),
+        }
+    }
+
+    fn next_in(self, days: &[u16; 1200]) -> Round {
+        let drawn = draw(self.drawn);
+        let digest = self.digest;
+        let mode = mode_of(drawn);
+        let TimeFound::At(t) = time_in(days, drawn as u64 % 3155760000, mode, 0) else {
+            return Round { drawn, digest };
+        };
+        Round {
+            drawn,
+            digest: mix_both(digest, t, t.number_in(days)),
         }
     }
 }
 
+// Each conversion by itself.
 fn digest_of(seed: u32, count: u32) -> u32 {
     let mut round = Round {
         drawn: seed,
@@ -75,12 +96,46 @@ fn digest_of(seed: u32, count: u32) -> u32 {
     round.digest
 }
 
+// All by one table.
+fn digest_in(seed: u32, count: u32) -> u32 {
+    let days = first_days();
+    let mut round = Round {
+        drawn: seed,
+        digest: 0,
+    };
+    let mut i = 0;
+    while i < count {
+        round = round.next_in(&days);
+        i = i + 1;
+    }
+    round.digest
+}
+
+fn answer(seed: u32, count: u32, way: u8) {
+    let digest = if way == 1 {
+        digest_in(seed, count)
+    } else {
+        digest_of(seed, count)
+    };
+    io::print_decimal(STDOUT_FILENO, digest as u64);
+    io::write_all(STDOUT_FILENO, b"\n");
+}
+
 fn main() {
-    let mut b = [0u8; 8];
+    let mut b = [0u8; 18];
     let got = io::read_full(STDIN_FILENO, &mut b);
-    if got == 8 {
-        let digest = digest_of(long(b[0], b[1], b[2], b[3]), long(b[4], b[5], b[6], b[7]));
-        io::print_decimal(STDOUT_FILENO, digest as u64);
-        io::write_all(STDOUT_FILENO, b"\n");
+    if got >= 9 {
+        answer(
+            long(b[0], b[1], b[2], b[3]),
+            long(b[4], b[5], b[6], b[7]),
+            b[8],
+        );
+    }
+    if got == 18 {
+        answer(
+            long(b[9], b[10], b[11], b[12]),
+            long(b[13], b[14], b[15], b[16]),
+            b[17],
+        );
     }
 }

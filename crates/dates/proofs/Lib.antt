@@ -1,5 +1,6 @@
 mod MonthTests
 pub mod MonthLaws
 pub mod DateLaws
+pub mod LentLaws
 pub mod HouseLaws
 mod Settled

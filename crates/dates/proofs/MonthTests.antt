@@ -1,5 +1,5 @@
 -- Tests that antt computes month by month with the running first day, and what each says of every month. Assumes nothing.
-use mathlib.Core.Path.{_≡_, _∙_, sym, subst, ap}
+use mathlib.Core.Path.{_≡_, refl, _∙_, sym, subst, ap, ap₂}
 use mathlib.Core.Bool.{Bool, true, _&&_}
 use mathlib.Core.List.{List, [], _∷_}
 use Prim.Native.Nat.{ℕ, zero, suc, _+_, _<_}
@@ -7,7 +7,7 @@ use native.Mathlib.Nat.{add-zero, zero-add, add-suc, suc-add, le-of-suc-le-suc, 
 use lib.Dec.{T, eqb, eqb→eq}
 use lib.ListN.{length, getD}
 use Rattle.fields.proofs.Below.{both-left, both-right}
-use Rattle.dates.specs.Months.{daysOf, firstDayOf}
+use Rattle.dates.specs.Months.{daysOf, firstDayOf, firstDaysFrom, firstDays}
 
 -- the table's rule: each entry is the running first day, and the century ends where the table does
 abbrev pub begins : ℕ → ℕ → List ℕ → Bool
@@ -27,6 +27,18 @@ begins-from (x ∷ xs) k t (suc i) h =
 pub table-rule : (xs : List ℕ) (k : ℕ) → T (begins 0 0 xs) → k < length xs → getD xs k 0 ≡ firstDayOf k
 unfolding firstDayOf
 table-rule xs k t h = begins-from xs 0 t k h ∙ ap firstDayOf (zero-add k)
+
+-- a table that passes is the list of first days
+begins-list : (xs : List ℕ) (k : ℕ) → T (begins k (firstDayOf k) xs) → xs ≡ firstDaysFrom (length xs) k
+unfolding firstDayOf firstDaysFrom
+begins-list [] k t = refl
+begins-list (x ∷ xs) k t =
+    ap₂ (λ (y : ℕ) (ys : List ℕ). y ∷ ys) (eqb→eq x (firstDayOf k) (both-left (eqb x (firstDayOf k)) (begins (suc k) (firstDayOf (suc k)) xs) t))
+    (begins-list xs (suc k) (both-right (eqb x (firstDayOf k)) (begins (suc k) (firstDayOf (suc k)) xs) t))
+
+pub table-list : (xs : List ℕ) → T (begins 0 0 xs) → length xs ≡ 1200 → xs ≡ firstDays
+unfolding firstDayOf firstDays
+table-list xs t e = begins-list xs 0 t ∙ ap (λ (n : ℕ). firstDaysFrom n 0) e
 
 -- a test of n months from month k on, each with its first day
 abbrev pub runs : (ℕ → ℕ → Bool) → ℕ → ℕ → ℕ → Bool

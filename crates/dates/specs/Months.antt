@@ -1,5 +1,6 @@
 -- The lengths of the months, and the first day numbers of all 1,200. (rules 3.8, 3.9 and 3.13)
 use mathlib.Core.Bool.{Bool, cond, _&&_}
+use mathlib.Core.List.{List, [], _∷_}
 use Prim.Native.Nat.{ℕ, zero, suc, _+_, _/_, _%_}
 use lib.Dec.{eqb}
 use Rattle.fields.specs.Digits.{valueOf, byteOf, legalOf}
@@ -32,3 +33,12 @@ daysOf k = valueOf (lastDayOf (monthByteOf k) (yearByteOf k))
 unfoldable pub firstDayOf : ℕ → ℕ
 firstDayOf zero = 0
 firstDayOf (suc k) = firstDayOf k + daysOf k
+
+-- the first days of n months in order, from month k on
+unfoldable pub firstDaysFrom : ℕ → ℕ → List ℕ
+firstDaysFrom zero k = []
+firstDaysFrom (suc n) k = firstDayOf k ∷ firstDaysFrom n (suc k)
+
+-- the first days of all 1,200 months (rule 3.13)
+unfoldable pub firstDays : List ℕ
+firstDays = firstDaysFrom 1200 0

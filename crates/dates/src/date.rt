@@ -1,14 +1,16 @@
 // Dates and their day numbers. (rules 3.3 and 3.10 to 3.13)
 use crate::months::last_day;
 use crate::table::first_day;
-use crate::table::month_of;
+use crate::table::guess;
 use fields::byte;
 use fields::legal;
 use fields::pick;
 use fields::step;
 use fields::value;
 ghost use mathlib.Core.Path.{_≡_};
-ghost use Rattle.dates.specs.Dates.{legalDateOf, nextDateOf, dayNumberOf, dateAtOf, dayNumber, dateFound};
+ghost use Prim.Native.Nat.{_+_, _-_, _<_, min};
+ghost use Rattle.dates.specs.Dates.{legalDateOf, nextDateOf, monthNumberOf, dayNumberOf, dateAtOf, dayNumber, dateFound};
+ghost use Rattle.dates.specs.Lent.{dayFrom, dateFrom};
 
 pub struct Date {
     pub day: u8,
@@ -59,14 +61,33 @@ impl Date {
         ensures { λ r. ⌜ dayNumber r ≡ dayNumberOf self ⌝ }
     {
         if self.legal_date() {
-            let y = value(self.year) as usize;
-            let m = value(self.month) as usize;
-            let d = value(self.day) as u64;
-            DayNumber::Day(first_day(y * 12 + (m - 1)) + (d - 1))
+            DayNumber::Day(day_from(first_day(self.month_number()), self.day))
         } else {
             DayNumber::None
         }
     }
+
+    // The number of its month, counted from January 2000.
+    pub(crate) fn month_number(self) -> usize
+        ensures { λ r. ⌜ r ≡ monthNumberOf self ⌝ }
+    {
+        let y = value(self.year) as usize;
+        let m = value(self.month) as usize;
+        y * 12 + less_one(m)
+    }
+}
+
+// The day number of a day in the month that begins on day first.
+pub(crate) fn day_from(first: u16, day: u8) -> u64
+    ensures { λ r. ⌜ r ≡ dayFrom first day ⌝ }
+{
+    first as u64 + less_one(value(day) as usize) as u64
+}
+
+pub(crate) fn less_one(x: usize) -> usize
+    ensures { λ r. ⌜ r ≡ x - 1 ⌝ }
+{
+    if x == 0 { 0 } else { x - 1 }
 }
 
 // The date of a day number. (rules 3.12 and 3.13)
@@ -74,13 +95,38 @@ pub fn date_at(n: u64) -> DateFound
     ensures { λ r. ⌜ dateFound r ≡ dateAtOf n ⌝ }
 {
     if n < 36525 {
-        let k = month_of(n);
-        DateFound::On(Date {
-            day: byte((n - first_day(k) + 1) as u8),
-            month: byte((k % 12 + 1) as u8),
-            year: byte((k / 12) as u8),
-        })
+        let e = guess(n);
+        let first = first_day(e);
+        if first as u64 <= n {
+            DateFound::On(dated(n, e, first))
+        } else {
+            let k = less_one(e);
+            DateFound::On(dated(n, k, first_day(k)))
+        }
     } else {
         DateFound::None
     }
+}
+
+// Day n in month k, which begins on day first.
+pub(crate) fn dated(n: u64, k: usize, first: u16) -> Date
+    requires { ⌜ k < 1200 ⌝ }
+    ensures { λ r. ⌜ r ≡ dateFrom n k first ⌝ }
+{
+    Date {
+        day: byte(day_of_month(n, first)),
+        month: byte((k % 12 + 1) as u8),
+        year: byte((k / 12) as u8),
+    }
+}
+
+// From 1 to 31, whatever a lent table says.
+fn day_of_month(n: u64, first: u16) -> u8
+    ensures { λ r. ⌜ r ≡ min (n - first) 30 + 1 ⌝ }
+{
+    let a = first as u64;
+    if n < a {
+        return 1;
+    }
+    if n - a < 30 { (n - a) as u8 + 1 } else { 31 }
 }

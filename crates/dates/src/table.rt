@@ -1,8 +1,8 @@
-// The first day numbers of all 1,200 months, and the month of a day. (rule 3.13)
+// The first day numbers of all 1,200 months, and the guess at the month of a day. (rule 3.13)
 ghost use mathlib.Core.Path.{_≡_};
-ghost use Prim.Native.Nat.{_+_, _*_, _/_, _<_, min};
-ghost use Rattle.dates.specs.Months.{firstDayOf};
-ghost use Rattle.dates.specs.Dates.{monthOf};
+ghost use Prim.Native.Nat.{_/_, _<_};
+ghost use Rattle.dates.specs.Months.{firstDayOf, firstDays};
+ghost use Rattle.dates.specs.Lent.{guessOf};
 
 const FIRST_DAYS: [u16; 1200] = [
     0,
@@ -1207,33 +1207,71 @@ const FIRST_DAYS: [u16; 1200] = [
     36494,
 ];
 
+// The table as a value: whoever converts many numbers makes it once and lends it.
+pub fn first_days() -> [u16; 1200]
+    ensures { λ r. ⌜ r ≡ firstDays ⌝ }
+{
+    FIRST_DAYS
+}
+
 // The day number on which month k begins.
-pub(crate) fn first_day(k: usize) -> u64
+pub(crate) fn first_day(k: usize) -> u16
     requires { ⌜ k < 1200 ⌝ }
     ensures { λ r. ⌜ r ≡ firstDayOf k ⌝ }
 {
-    wide(FIRST_DAYS[k])
+    match k / 400 {
+        0 => first_third(k),
+        1 => second_third(k),
+        _ => last_third(k),
+    }
 }
 
-fn wide(n: u16) -> u64
-    ensures { λ r. ⌜ r ≡ n ⌝ }
+// Of a constant array only entries that a place can reach are laid on the stack: a hundred here, not 1,200.
+fn first_third(k: usize) -> u16
+    requires { ⌜ k / 400 ≡ 0 ⌝ }
+    ensures { λ r. ⌜ r ≡ firstDayOf k ⌝ }
 {
-    n as u64
+    let m = k % 100;
+    match k / 100 {
+        0 => FIRST_DAYS[m],
+        1 => FIRST_DAYS[100 + m],
+        2 => FIRST_DAYS[200 + m],
+        _ => FIRST_DAYS[300 + m],
+    }
 }
 
-// The month in which day n of the century falls: the guess, or the month before it.
-pub(crate) fn month_of(n: u64) -> usize
-    requires { ⌜ n < 36525 ⌝ }
-    ensures { λ r. ⌜ r ≡ monthOf n ⌝ }
+// As in the first third.
+fn second_third(k: usize) -> u16
+    requires { ⌜ k / 400 ≡ 1 ⌝ }
+    ensures { λ r. ⌜ r ≡ firstDayOf k ⌝ }
 {
-    let e = guess(n);
-    if first_day(e) <= n { e } else { e - 1 }
+    let m = k % 100;
+    match k / 100 {
+        4 => FIRST_DAYS[400 + m],
+        5 => FIRST_DAYS[500 + m],
+        6 => FIRST_DAYS[600 + m],
+        _ => FIRST_DAYS[700 + m],
+    }
+}
+
+// As in the first third.
+fn last_third(k: usize) -> u16
+    requires { ⌜ k / 400 ≡ 2 ⌝ }
+    ensures { λ r. ⌜ r ≡ firstDayOf k ⌝ }
+{
+    let m = k % 100;
+    match k / 100 {
+        8 => FIRST_DAYS[800 + m],
+        9 => FIRST_DAYS[900 + m],
+        10 => FIRST_DAYS[1000 + m],
+        _ => FIRST_DAYS[1100 + m],
+    }
 }
 
 // 487 days to 16 months: the month of day n or the one after it.
-fn guess(n: u64) -> usize
+pub(crate) fn guess(n: u64) -> usize
     requires { ⌜ n < 36525 ⌝ }
-    ensures { λ r. ⌜ r ≡ min ((n * 16 + 40) / 487) 1199 ⌝ }
+    ensures { λ r. ⌜ r ≡ guessOf n ⌝ }
 {
     let e = (n * 16 + 40) / 487;
     if e < 1200 { e as usize } else { 1199 }

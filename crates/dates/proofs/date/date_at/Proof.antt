@@ -1,70 +1,67 @@
--- A day of the century falls into the month that is found, and the date is the definition's. Assumes nothing.
-use native.Mathlib.Omega.{arith}
-use borrow.Author.Tests.{lt-ltb, le-ltb}
+-- The day falls into the guessed month or the one before it, and its date there is the definition's. Assumes nothing.
+use mathlib.Core.Path.{_∙_, ap}
+use mathlib.Core.Option.{some}
+use borrow.Author.Tests.{le-ltb}
+use Rattle.dates.proofs.MonthLaws.{guess-month, guess-before}
+use Rattle.dates.proofs.LentLaws.{dated-at}
 use Rattle.dates.specs.Dates.{dateAtOf}
-use Rattle.dates.proofs.MonthLaws.{Falls, falls, days-small}
 use borrow.Author.Needs.{needs}
 use Rattle.dates.proofs.date.date_at.Statement.{statement}
 use Rattle.dates.proofs.date.date_at.Tie as tie
 
-month : (c : tie.After-month-of) → Falls (c .month-of .result) (c .before .before .args .n)
-month c = rw (c .month-of .ensures) (falls (c .before .before .args .n) (c .before .if1 .taken))
-
-month-of-requires : tie.Need-month-of-requires
-month-of-requires c κs = search needs
+guess-requires : tie.Need-guess-requires
+guess-requires c κs = search needs
 
 first-day-requires : tie.Need-first-day-requires
-first-day-requires c κs = month c .month
+first-day-requires c κs = search needs
 
-sub-byte : tie.Need-sub-byte
-sub-byte c = rw (c .first-day .ensures) (month (c .before) .from)
+cast-if2 : tie.Need-cast-if2
+cast-if2 c = search needs
 
-add-byte : tie.Need-add-byte
-add-byte c = search needs
+dated-requires : tie.Need-dated-requires
+dated-requires c κs = search needs
 
-cast-byte : tie.Need-cast-byte
-cast-byte c = rw (c .first-day .ensures) (omega (arith, month (c .before) .from, month (c .before) .until, days-small (c .before .month-of .result)))
+less-one-requires : tie.Need-less-one-requires
+less-one-requires c κs = search needs
 
-byte-requires : tie.Need-byte-requires
-byte-requires c κs = search needs
+first-day-requires-2 : tie.Need-first-day-requires-2
+first-day-requires-2 c κs = search needs
 
-add-byte-2 : tie.Need-add-byte-2
-add-byte-2 c = search needs
-
-cast-byte-2 : tie.Need-cast-byte-2
-cast-byte-2 c = search needs
-
-byte-requires-2 : tie.Need-byte-requires-2
-byte-requires-2 c κs = search needs
-
-cast-byte-3 : tie.Need-cast-byte-3
-cast-byte-3 c = omega (arith, month (c .before .before .before) .month)
-
-byte-requires-3 : tie.Need-byte-requires-3
-byte-requires-3 c κs = search needs
+dated-requires-2 : tie.Need-dated-requires-2
+dated-requires-2 c κs = search needs
 
 returns : tie.Need-returns
-unfolding dateAtOf
-returns c = simp (lt-ltb _ _ (c .before .before .before .before .before .if1 .taken), c .byte3 .ensures, c .before .byte2 .ensures, c .before .before .byte .ensures, c .before .before .before .first-day .ensures, c .before .before .before .before .month-of .ensures)
+returns c =
+    let n = c .before .before .before .before .before .args .n in
+    let e = c .before .before .before .guess .result in
+    let f = c .before .before .first-day .result in
+    let h = guess-month n e (c .before .before .before .before .if1 .taken) (c .before .before .before .guess .ensures) (rw (c .before .before .first-day .ensures) at (c .before .if2 .taken)) in
+    ap some (c .dated .ensures) ∙ dated-at e n f h (c .before .before .first-day .ensures)
 
 returns-2 : tie.Need-returns-2
+returns-2 c =
+    let n = c .before .before .before .before .before .before .before .args .n in
+    let e = c .before .before .before .before .before .guess .result in
+    let k = c .before .before .less-one .result in
+    let l = rw (c .before .before .before .before .first-day .ensures) at (c .before .before .before .if2 .left) in
+    let h = guess-before n e (c .before .before .before .before .before .before .if1 .taken) (c .before .before .before .before .before .guess .ensures) l in
+    ap some (c .dated2 .ensures) ∙ dated-at k n (c .before .first-day2 .result) (rw (c .before .before .less-one .ensures) h) (c .before .first-day2 .ensures)
+
+returns-3 : tie.Need-returns-3
 unfolding dateAtOf
-returns-2 c = simp (le-ltb _ _ (c .if1 .left))
+returns-3 c = simp (le-ltb _ _ (c .if1 .left))
 
 pub date-at-spec : {M : Type 1} → statement M
 date-at-spec =
     tie.close
     (tie.spec
-    month-of-requires
+    guess-requires
     first-day-requires
-    sub-byte
-    add-byte
-    cast-byte
-    byte-requires
-    add-byte-2
-    cast-byte-2
-    byte-requires-2
-    cast-byte-3
-    byte-requires-3
+    cast-if2
+    dated-requires
+    less-one-requires
+    first-day-requires-2
+    dated-requires-2
     returns
-    returns-2)
+    returns-2
+    returns-3)

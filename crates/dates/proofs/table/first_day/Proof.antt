@@ -1,22 +1,33 @@
--- The table passes its test, so each entry is the first day of its month. Assumes nothing.
-use Rattle.dates.specs.Months.{leapOf, lastDayOf, daysOf}
-use Rattle.dates.proofs.MonthTests.{table-rule}
-use borrow.Author.Needs.{needs}
+-- Each third of the century is read by its own function. Assumes nothing.
+use native.Mathlib.Omega.{arith}
 use Rattle.dates.proofs.table.first_day.Statement.{statement}
 use Rattle.dates.proofs.table.first_day.Tie as tie
 
-mul-wide : tie.Need-mul-wide
-mul-wide c = search needs
+first-third-requires : tie.Need-first-third-requires
+first-third-requires c κs = c .match .keys1
 
-array-read-wide : tie.Need-array-read-wide
-array-read-wide c = search needs
+second-third-requires : tie.Need-second-third-requires
+second-third-requires c κs = c .match .keys2
 
-wide-requires : tie.Need-wide-requires
-wide-requires c κs = search needs
+last-third-requires : tie.Need-last-third-requires
+last-third-requires c κs = omega arith
 
 returns : tie.Need-returns
-unfolding leapOf lastDayOf daysOf
-returns c = rw (c .wide .ensures, table-rule, tt {0}, c .before .pre)
+returns c = c .first-third .ensures
+
+returns-2 : tie.Need-returns-2
+returns-2 c = c .second-third .ensures
+
+returns-3 : tie.Need-returns-3
+returns-3 c = c .last-third .ensures
 
 pub first-day-spec : {M : Type 1} → statement M
-first-day-spec = tie.close (tie.spec mul-wide array-read-wide wide-requires returns)
+first-day-spec =
+    tie.close
+    (tie.spec
+    first-third-requires
+    second-third-requires
+    last-third-requires
+    returns
+    returns-2
+    returns-3)
