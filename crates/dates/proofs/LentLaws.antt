@@ -12,10 +12,10 @@ use Rattle.fields.specs.Digits.{valueOf, byteOf}
 use Rattle.fields.proofs.Picked.{picked}
 use Rattle.dates.specs.Months.{monthByteOf, yearByteOf, daysOf, firstDayOf, firstDaysFrom, firstDays}
 use Rattle.dates.specs.Dates.{legalDateOf, monthNumberOf, dayOf, dayNumberOf, monthOf, dateIn, dateAtOf}
-use Rattle.dates.specs.Lent.{dayFrom, dayNumberInOf, guessOf, monthBy, monthInOf, dateFrom, dateInOf}
+use Rattle.dates.specs.Lent.{dayFrom, dayBy, dayNumberInOf, guessOf, monthBy, monthInOf, dateFrom, dateBy, dateInOf}
 use Rattle.dates.specs.declared.date.Date.{Date}
 use Rattle.dates.proofs.MonthLaws.{first-small, Falls, found, guess-month, guess-before, days-small}
-use Rattle.dates.proofs.DateLaws.{legal-date, month-small}
+use Rattle.dates.proofs.DateLaws.{LegalDate, legal-date, month-small}
 
 listed-from : (n k i : ℕ) → i < n → getD (firstDaysFrom n k) i 0 ≡ firstDayOf (k + i)
 unfolding firstDaysFrom
@@ -52,28 +52,33 @@ month-lent n a false h e t = guess-before n (guessOf n) h refl (rw e at (leb-fal
 guess-small : (n : ℕ) → guessOf n < 1200
 guess-small n = omega arith
 
-date-by : (n : ℕ) (b : Bool) → ltb n 36525 ≡ b → cond b (some (dateFrom n (monthInOf firstDays n) (getD firstDays (monthInOf firstDays n) 0))) none ≡ cond b (some (dateIn (monthOf n) n)) none
-date-by n true t =
-    let a = getD firstDays (guessOf n) 0 in
-    let f : Falls (monthInOf firstDays n) n = month-lent n a (leb a n) (ltb-true n 36525 t) (first-listed (guessOf n) (guess-small n)) refl in
-    ap some (from-first (monthInOf firstDays n) n (getD firstDays (monthInOf firstDays n) 0) f (first-listed (monthInOf firstDays n) (f .month)))
-date-by n false t = refl
-
 -- whatever the first day, the month is one of the century
 pub by-small : (n e a : ℕ) → e < 1200 → monthBy n e a < 1200
 by-small n e a h = picked (λ (k : ℕ). k < 1200) (leb a n) h (omega arith)
 
+-- answers that are there in the same case are the same if their values are, where they are there
+same-answer : {A : Type 0} (b : Bool) {x y : A} → (b ≡ true → x ≡ y) → cond b (some x) none ≡ cond b (some y) none
+same-answer true h = ap some (h refl)
+same-answer false h = refl
+
+-- the date of a day of the century
+date-by : (n : ℕ) → n < 36525 → dateBy firstDays n ≡ dateIn (monthOf n) n
+date-by n h =
+    let a = getD firstDays (guessOf n) 0 in
+    let f : Falls (monthInOf firstDays n) n = month-lent n a (leb a n) h (first-listed (guessOf n) (guess-small n)) refl in
+    from-first (monthInOf firstDays n) n (getD firstDays (monthInOf firstDays n) 0) f (first-listed (monthInOf firstDays n) (f .month))
+
 -- the date of a day number
 pub lent-date : (n : ℕ) → dateInOf firstDays n ≡ dateAtOf n
 unfolding dateInOf dateAtOf
-lent-date n = date-by n (ltb n 36525) refl
+lent-date n = same-answer (ltb n 36525) (λ e. date-by n (ltb-true n 36525 e))
 
-number-by : (d : Date) (b : Bool) → legalDateOf d ≡ b → cond b (some (dayFrom (getD firstDays (monthNumberOf d) 0) (d .day))) none ≡ cond b (some (dayOf d)) none
+-- the days since 2000-01-01 of a legal date
+day-by : (d : Date) → LegalDate d → dayBy firstDays d ≡ dayOf d
 unfolding dayOf
-number-by d true e = ap (λ (a : ℕ). some (dayFrom a (d .day))) (first-listed (monthNumberOf d) (month-small d (legal-date d e)))
-number-by d false e = refl
+day-by d l = ap (λ (a : ℕ). dayFrom a (d .day)) (first-listed (monthNumberOf d) (month-small d l))
 
 -- the day number of a date
 pub lent-number : (d : Date) → dayNumberInOf firstDays d ≡ dayNumberOf d
 unfolding dayNumberInOf dayNumberOf
-lent-number d = number-by d (legalDateOf d) refl
+lent-number d = same-answer (legalDateOf d) (λ e. day-by d (legal-date d e))

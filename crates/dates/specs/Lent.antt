@@ -14,9 +14,13 @@ use Rattle.dates.specs.declared.date.Date.{Date}
 abbrev pub dayFrom : ℕ → ℕ → ℕ
 dayFrom a day = a + (valueOf day - 1)
 
+-- the days since 2000-01-01 by a list of first days
+abbrev pub dayBy : List ℕ → Date → ℕ
+dayBy l d = dayFrom (getD l (monthNumberOf d) 0) (d .day)
+
 -- the day number by a list of first days, or none
 unfoldable pub dayNumberInOf : List ℕ → Date → Option ℕ
-dayNumberInOf l d = cond (legalDateOf d) (some (dayFrom (getD l (monthNumberOf d) 0) (d .day))) none
+dayNumberInOf l d = cond (legalDateOf d) (some (dayBy l d)) none
 
 -- 487 days to 16 months: the month of day n or the one after it
 abbrev pub guessOf : ℕ → ℕ
@@ -34,6 +38,10 @@ monthInOf l n = monthBy n (guessOf n) (getD l (guessOf n) 0)
 abbrev pub dateFrom : ℕ → ℕ → ℕ → Date
 dateFrom n k a = record { day = byteOf (min (n - a) 30 + 1); month = monthByteOf k; year = yearByteOf k }
 
+-- the date of day n of the century by a list of first days
+abbrev pub dateBy : List ℕ → ℕ → Date
+dateBy l n = dateFrom n (monthInOf l n) (getD l (monthInOf l n) 0)
+
 -- the date of a day number by a list of first days, or none
 unfoldable pub dateInOf : List ℕ → ℕ → Option Date
-dateInOf l n = cond (ltb n 36525) (some (dateFrom n (monthInOf l n) (getD l (monthInOf l n) 0))) none
+dateInOf l n = cond (ltb n 36525) (some (dateBy l n)) none
