@@ -160,15 +160,17 @@ class Programs:
         build_c(self.source, SOURCES / f"{self.other}.c")
         self.sides = [words_for(PROVED / self.crate), words_for(BUILT / self.source)]
 
-    def compare_on(self, given):
-        pipes = {"input": given, "stdout": subprocess.PIPE}
-        proved, by_hand = (call(words, f"{words[-1]} failed", **pipes) for words in self.sides)
+    def compare_on(self, *given):
+        """One input for each side."""
+        sides = zip(self.sides, given)
+        said = [call(words, f"{words[-1]} failed", input=asked, stdout=subprocess.PIPE) for words, asked in sides]
+        proved, by_hand = said
         if proved != by_hand or not proved:
             raise Stop(f"the two sides differ on: {self.name}")
 
     def rows(self, runs):
         with tempfile.NamedTemporaryFile() as file:
-            amounts = [filling(lambda amount: self.timing(words, file, amount)) for words in self.sides]
+            amounts = [filling(lambda amount: self.timing(side, file, amount)) for side in range(len(self.sides))]
             times = [self.run(file, amounts) for _ in range(runs)]
         return [Row(self.name, self.unit, *map(list, zip(*times)))]
 
@@ -176,8 +178,8 @@ class Programs:
         """Seconds for a unit of work on each side."""
         took = [0, 0]
         for _ in range(SLICES):
-            for side, words in enumerate(self.sides):
-                took[side] += self.timing(words, file, amounts[side])
+            for side, amount in enumerate(amounts):
+                took[side] += self.timing(side, file, amount)
         return [seconds / SLICES / amount for seconds, amount in zip(took, amounts)]
 
 
@@ -198,30 +200,36 @@ class Scripts(Programs):
         self.name, self.example = name, script
 
     def compare(self):
-        self.compare_on(self.example)
+        self.compare_on(self.example, self.example)
 
-    def timing(self, words, file, amount):
+    def timing(self, side, file, amount):
         put(file, self.example)
-        return time_processes(words, file.name, amount)
+        return time_processes(self.sides[side], file.name, amount)
 
 
 class Dates(Programs):
-    """Second numbers to dates and back, all in one process."""
+    """Second numbers to dates and back, all in one process, whose start is not counted."""
 
-    name, unit, crate = "second number to date and back", "numbers", "date_rounds"
+    unit = "numbers"
 
-    def __init__(self):
-        super().__init__(self.crate, "rounds", "dates")
-        self.example = self.asking(1)
+    def __init__(self, name, way):
+        super().__init__("date_rounds", "rounds", "dates")
+        self.name, self.way = name, way
+        self.example = self.asking(1)[0]
 
-    @staticmethod
-    def asking(count):
-        return struct.pack("<II", SEED, count)
+    def asking(self, count):
+        """The input for each side: the proved program is told the way, too."""
+        asked = struct.pack("<II", SEED, count)
+        return [asked + bytes([self.way]), asked]
 
     def compare(self):
-        for count in (1, 100_000):
-            self.compare_on(self.asking(count))
+        for count in (0, 1, 100_000):
+            self.compare_on(*self.asking(count))
 
-    def timing(self, words, file, amount):
-        put(file, self.asking(amount))
-        return time_processes(words, file.name, 1)
+    def process(self, side, file, count):
+        put(file, self.asking(count)[side])
+        return time_processes(self.sides[side], file.name, 1)
+
+    def timing(self, side, file, amount):
+        """What the conversions take: a process that makes none is timed beside, and taken off."""
+        return self.process(side, file, amount) - self.process(side, file, 0)

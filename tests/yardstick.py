@@ -195,20 +195,27 @@ def dates(draw):
     return len(asked)
 
 
-def rounds():
-    """The rounds of date_rounds: what is stored for it and what the yardstick prints, by datetime."""
-    asked = (ROUNDS / "stdin").read_bytes()
-    drawn, count = struct.unpack("<II", asked)
+def digest_of(drawn, count):
+    """What the rounds from a seed come to, by datetime."""
     digest = 0
     for _ in range(count):
         drawn = (drawn * 1664525 + 1013904223) % 2**32
         number = drawn % calendar_figures.CENTURY
         for figure in [*calendar_figures.time_of(number, bool(drawn >> 16 & 1), 0), number]:
             digest = (digest * 31 + figure) % 2**32
-    owed = f"{digest}\n".encode()
-    compare("what is stored for date_rounds", owed, (ROUNDS / "stdout").read_bytes())
-    compare("rounds", owed, yardstick("rounds", input=asked))
-    return count
+    return f"{digest}\n".encode()
+
+
+def rounds():
+    """What is stored for date_rounds, which is asked for both its ways, and what the yardstick prints."""
+    asked = list(struct.iter_unpack("<IIB", (ROUNDS / "stdin").read_bytes()))
+    if [way for _, _, way in asked] != [0, 1]:
+        raise Difference("what is stored for date_rounds does not ask for each way once")
+    owed = [digest_of(seed, count) for seed, count, _ in asked]
+    compare("what is stored for date_rounds", b"".join(owed), (ROUNDS / "stdout").read_bytes())
+    for (seed, count, _), line in zip(asked, owed):
+        compare("rounds", line, yardstick("rounds", input=struct.pack("<II", seed, count)))
+    return sum(count for _, count, _ in asked)
 
 
 def main():
