@@ -152,12 +152,14 @@ def filling(timing):
 class Programs:
     """A work for two programs, which read it from standard input and write the same."""
 
+    flags = []
+
     def __init__(self, crate, source, other):
         self.crate, self.source, self.other = crate, source, other
 
     def build(self):
         build_proved(self.crate, self.example)
-        build_c(self.source, SOURCES / f"{self.other}.c")
+        build_c(self.source, SOURCES / f"{self.other}.c", *self.flags)
         self.sides = [words_for(PROVED / self.crate), words_for(BUILT / self.source)]
 
     def compare_on(self, *given):
@@ -211,6 +213,8 @@ class Dates(Programs):
     """Second numbers to dates and back, all in one process, whose start is not counted."""
 
     unit = "numbers"
+    # The proved crates are compiled as one program, too.
+    flags = ["-flto"]
 
     def __init__(self, name, way):
         super().__init__("date_rounds", "rounds", "dates")
