@@ -1,5 +1,4 @@
-// Turns drawn second numbers into times and back, and prints a digest of all of it. Standard input asks once or twice:
-// a seed and a count of four bytes each, and a byte, 1 for all by one table and else each conversion by itself.
+// Turns drawn second numbers into times and back, each by itself or all by one table, and prints a digest of all of it.
 use calendar::SecondNumber;
 use calendar::Time;
 use calendar::TimeFound;
@@ -121,6 +120,7 @@ fn answer(seed: u32, count: u32, way: u8) {
     io::write_all(STDOUT_FILENO, b"\n");
 }
 
+// Asked once or twice: a seed and a count of four bytes each, and a byte that is 1 where one table is to serve for all.
 fn main() {
     let mut b = [0u8; 18];
     let got = io::read_full(STDIN_FILENO, &mut b);

@@ -100,6 +100,7 @@ pub fn date_at(n: u64) -> DateFound
         if first as u64 <= n {
             DateFound::On(dated(n, e, first))
         } else {
+            // Looked up only here: the guess is late on one day in eighteen.
             let k = less_one(e);
             DateFound::On(dated(n, k, first_day(k)))
         }
