@@ -1219,52 +1219,50 @@ pub(crate) fn first_day(k: usize) -> u16
     requires { ⌜ k < 1200 ⌝ }
     ensures { λ r. ⌜ r ≡ firstDayOf k ⌝ }
 {
-    match k / 400 {
-        0 => first_third(k),
-        1 => second_third(k),
-        _ => last_third(k),
+    match k / 480 {
+        0 => first_decades(k),
+        1 => middle_decades(k),
+        _ => last_decades(k),
     }
 }
 
-// Of a constant array only entries that a place can reach are laid on the stack: a hundred here, not 1,200.
-fn first_third(k: usize) -> u16
-    requires { ⌜ k / 400 ≡ 0 ⌝ }
+// Of a constant array only entries that a place can reach are laid on the stack: a decade here, not a century.
+fn first_decades(k: usize) -> u16
+    requires { ⌜ k / 480 ≡ 0 ⌝ }
     ensures { λ r. ⌜ r ≡ firstDayOf k ⌝ }
 {
-    let m = k % 100;
-    match k / 100 {
+    let m = k % 120;
+    match k / 120 {
         0 => FIRST_DAYS[m],
-        1 => FIRST_DAYS[100 + m],
-        2 => FIRST_DAYS[200 + m],
-        _ => FIRST_DAYS[300 + m],
+        1 => FIRST_DAYS[120 + m],
+        2 => FIRST_DAYS[240 + m],
+        _ => FIRST_DAYS[360 + m],
     }
 }
 
-// As in the first third.
-fn second_third(k: usize) -> u16
-    requires { ⌜ k / 400 ≡ 1 ⌝ }
+// As in the first decades.
+fn middle_decades(k: usize) -> u16
+    requires { ⌜ k / 480 ≡ 1 ⌝ }
     ensures { λ r. ⌜ r ≡ firstDayOf k ⌝ }
 {
-    let m = k % 100;
-    match k / 100 {
-        4 => FIRST_DAYS[400 + m],
-        5 => FIRST_DAYS[500 + m],
-        6 => FIRST_DAYS[600 + m],
-        _ => FIRST_DAYS[700 + m],
+    let m = k % 120;
+    match k / 120 {
+        4 => FIRST_DAYS[480 + m],
+        5 => FIRST_DAYS[600 + m],
+        6 => FIRST_DAYS[720 + m],
+        _ => FIRST_DAYS[840 + m],
     }
 }
 
-// As in the first third.
-fn last_third(k: usize) -> u16
-    requires { ⌜ k / 400 ≡ 2 ⌝ }
+// As in the first decades.
+fn last_decades(k: usize) -> u16
+    requires { ⌜ k / 240 ≡ 4 ⌝ }
     ensures { λ r. ⌜ r ≡ firstDayOf k ⌝ }
 {
-    let m = k % 100;
-    match k / 100 {
-        8 => FIRST_DAYS[800 + m],
-        9 => FIRST_DAYS[900 + m],
-        10 => FIRST_DAYS[1000 + m],
-        _ => FIRST_DAYS[1100 + m],
+    let m = k % 120;
+    match k / 120 {
+        8 => FIRST_DAYS[960 + m],
+        _ => FIRST_DAYS[1080 + m],
     }
 }
 

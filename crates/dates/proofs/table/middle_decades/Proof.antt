@@ -5,8 +5,8 @@ use native.Mathlib.Omega.{arith}
 use Rattle.dates.specs.Months.{leapOf, lastDayOf, daysOf, firstDayOf}
 use Rattle.dates.proofs.MonthTests.{table-rule}
 use borrow.Author.Needs.{needs}
-use Rattle.dates.proofs.table.second_third.Statement.{statement}
-use Rattle.dates.proofs.table.second_third.Tie as tie
+use Rattle.dates.proofs.table.middle_decades.Statement.{statement}
+use Rattle.dates.proofs.table.middle_decades.Tie as tie
 
 add-result : tie.Need-add-result
 add-result c = search needs
@@ -48,32 +48,32 @@ returns : tie.Need-returns
 unfolding leapOf lastDayOf daysOf
 returns c =
     let k = c .before .args .k in
-    let h : 400 + k % 100 < 1200 = omega arith in
+    let h : 480 + k % 120 < 1200 = omega arith in
     rw (table-rule, tt {0}, h) (ap firstDayOf (omega arith))
 
 returns-2 : tie.Need-returns-2
 unfolding leapOf lastDayOf daysOf
 returns-2 c =
     let k = c .before .args .k in
-    let h : 500 + k % 100 < 1200 = omega arith in
+    let h : 600 + k % 120 < 1200 = omega arith in
     rw (table-rule, tt {0}, h) (ap firstDayOf (omega arith))
 
 returns-3 : tie.Need-returns-3
 unfolding leapOf lastDayOf daysOf
 returns-3 c =
     let k = c .before .args .k in
-    let h : 600 + k % 100 < 1200 = omega arith in
+    let h : 720 + k % 120 < 1200 = omega arith in
     rw (table-rule, tt {0}, h) (ap firstDayOf (omega arith))
 
 returns-4 : tie.Need-returns-4
 unfolding leapOf lastDayOf daysOf
 returns-4 c =
     let k = c .before .args .k in
-    let h : 700 + k % 100 < 1200 = omega arith in
+    let h : 840 + k % 120 < 1200 = omega arith in
     rw (table-rule, tt {0}, h) (ap firstDayOf (omega arith))
 
-pub second-third-spec : {M : Type 1} → statement M
-second-third-spec =
+pub middle-decades-spec : {M : Type 1} → statement M
+middle-decades-spec =
     tie.close
     (tie.spec
     add-result

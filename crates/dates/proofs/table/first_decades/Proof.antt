@@ -5,11 +5,8 @@ use native.Mathlib.Omega.{arith}
 use Rattle.dates.specs.Months.{leapOf, lastDayOf, daysOf, firstDayOf}
 use Rattle.dates.proofs.MonthTests.{table-rule}
 use borrow.Author.Needs.{needs}
-use Rattle.dates.proofs.table.last_third.Statement.{statement}
-use Rattle.dates.proofs.table.last_third.Tie as tie
-
-add-result : tie.Need-add-result
-add-result c = search needs
+use Rattle.dates.proofs.table.first_decades.Statement.{statement}
+use Rattle.dates.proofs.table.first_decades.Tie as tie
 
 mul-result : tie.Need-mul-result
 mul-result c = search needs
@@ -17,8 +14,8 @@ mul-result c = search needs
 array-read-result : tie.Need-array-read-result
 array-read-result c = search needs
 
-add-result-2 : tie.Need-add-result-2
-add-result-2 c = search needs
+add-result : tie.Need-add-result
+add-result c = search needs
 
 mul-result-2 : tie.Need-mul-result-2
 mul-result-2 c = search needs
@@ -26,8 +23,8 @@ mul-result-2 c = search needs
 array-read-result-2 : tie.Need-array-read-result-2
 array-read-result-2 c = search needs
 
-add-result-3 : tie.Need-add-result-3
-add-result-3 c = search needs
+add-result-2 : tie.Need-add-result-2
+add-result-2 c = search needs
 
 mul-result-3 : tie.Need-mul-result-3
 mul-result-3 c = search needs
@@ -35,8 +32,8 @@ mul-result-3 c = search needs
 array-read-result-3 : tie.Need-array-read-result-3
 array-read-result-3 c = search needs
 
-add-result-4 : tie.Need-add-result-4
-add-result-4 c = search needs
+add-result-3 : tie.Need-add-result-3
+add-result-3 c = search needs
 
 mul-result-4 : tie.Need-mul-result-4
 mul-result-4 c = search needs
@@ -48,44 +45,43 @@ returns : tie.Need-returns
 unfolding leapOf lastDayOf daysOf
 returns c =
     let k = c .before .args .k in
-    let h : 800 + k % 100 < 1200 = omega arith in
+    let h : k % 120 < 1200 = omega arith in
     rw (table-rule, tt {0}, h) (ap firstDayOf (omega arith))
 
 returns-2 : tie.Need-returns-2
 unfolding leapOf lastDayOf daysOf
 returns-2 c =
     let k = c .before .args .k in
-    let h : 900 + k % 100 < 1200 = omega arith in
+    let h : 120 + k % 120 < 1200 = omega arith in
     rw (table-rule, tt {0}, h) (ap firstDayOf (omega arith))
 
 returns-3 : tie.Need-returns-3
 unfolding leapOf lastDayOf daysOf
 returns-3 c =
     let k = c .before .args .k in
-    let h : 1000 + k % 100 < 1200 = omega arith in
+    let h : 240 + k % 120 < 1200 = omega arith in
     rw (table-rule, tt {0}, h) (ap firstDayOf (omega arith))
 
 returns-4 : tie.Need-returns-4
 unfolding leapOf lastDayOf daysOf
 returns-4 c =
     let k = c .before .args .k in
-    let h : 1100 + k % 100 < 1200 = omega arith in
+    let h : 360 + k % 120 < 1200 = omega arith in
     rw (table-rule, tt {0}, h) (ap firstDayOf (omega arith))
 
-pub last-third-spec : {M : Type 1} → statement M
-last-third-spec =
+pub first-decades-spec : {M : Type 1} → statement M
+first-decades-spec =
     tie.close
     (tie.spec
-    add-result
     mul-result
     array-read-result
-    add-result-2
+    add-result
     mul-result-2
     array-read-result-2
-    add-result-3
+    add-result-2
     mul-result-3
     array-read-result-3
-    add-result-4
+    add-result-3
     mul-result-4
     array-read-result-4
     returns
