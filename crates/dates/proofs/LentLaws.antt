@@ -1,5 +1,5 @@
 -- By the list of first days the conversions of a lent list are those of the rules. Assumes nothing.
-use mathlib.Core.Path.{_≡_, refl, sym, _∙_, ap, ap₂}
+use mathlib.Core.Path.{_≡_, refl, sym, _∙_, ap}
 use mathlib.Core.Bool.{Bool, true, false, cond}
 use mathlib.Core.Option.{none, some}
 use Prim.Native.Nat.{ℕ, zero, suc, min, _+_, _-_, _≤_, _<_}
@@ -8,7 +8,7 @@ use native.Mathlib.Omega.{arith}
 use lib.Dec.{leb, ltb}
 use lib.ListN.{getD}
 use borrow.Author.Tests.{lt-ltb, ltb-true, leb-true, leb-false}
-use Rattle.fields.specs.Digits.{valueOf, byteOf}
+use Rattle.fields.specs.Digits.{byteOf}
 use Rattle.fields.proofs.Picked.{picked}
 use Rattle.dates.specs.Months.{monthByteOf, yearByteOf, daysOf, firstDayOf, firstDaysFrom, firstDays}
 use Rattle.dates.specs.Dates.{legalDateOf, monthNumberOf, dayOf, dayNumberOf, monthOf, dateIn, dateAtOf}

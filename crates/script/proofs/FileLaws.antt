@@ -174,7 +174,7 @@ module _ (file : List ℕ) (h : Header) (room : ℕ) (g : Good file h room) wher
         (events-room, (ap (λ (es : List Event). firstOf es 0 .refusal) in-part ∙ g .events, (stands .well, stands .again)))
 
     pub ran-good :
-        (out last : List ℕ) (d : Clock) (exit : List ℕ) → eventsRun state part-events out last exit → d ≡ clockOf last →
+        (out : List ℕ) (last d : Clock) (exit : List ℕ) → eventsRun (clockOf state) part-events out last exit → d ≡ last →
         _≡_ {A = Run} (record { refusal = 0; index = 0; count = h .count; state = d; output = exit }) (goodOf file h out)
     unfolding goodOf
     ran-good out last d exit run decoded =

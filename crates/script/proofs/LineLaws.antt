@@ -19,6 +19,7 @@ use Rattle.sd2068.specs.Step.{Told, quietOf, eventOf, refusalOf, stepOf}
 use Rattle.sd2068.specs.Run.{toldBy, after, afterOf}
 use Rattle.script.specs.Event.{eventAt, eventsFrom, eventsIn}
 use Rattle.script.specs.Lines.{lineOf, putOf, linesOf}
+use Rattle.script.specs.File.{eventsRun}
 use Rattle.script.proofs.SearchLaws.{events-length}
 
 -- an answer has two characters, and a line five
@@ -162,12 +163,8 @@ module _ {s out₀ : List ℕ} {c₀ : Clock} {out : List ℕ} {c : Clock} {left
         subst (λ (o : List ℕ). Stage s out₀ c₀ o d (left - 1) (at + 4) (line + 5)) (sym put)
         (subst (λ (x : Clock). Stage s out₀ c₀ (putOf out line (toldLine told)) x (left - 1) (at + 4) (line + 5)) (sym state) goes-on)
 
--- what running events from a state leaves: the last state, and the lines with the output's rest
-abbrev pub AllRun : Clock → List Event → List ℕ → Clock → List ℕ → Type 0
-AllRun c es out last exit = (last ≡ afterOf c es) × (exit ≡ linesOf c es ++ drop (length es * 5) out)
-
 -- nothing is left: the lines stand, and behind them what stood there
-ends : {s out₀ : List ℕ} {c₀ : Clock} {out : List ℕ} {c : Clock} {at line : ℕ} → Stage s out₀ c₀ out c 0 at line → AllRun c₀ (eventsIn s) out₀ c out
+ends : {s out₀ : List ℕ} {c₀ : Clock} {out : List ℕ} {c : Clock} {at line : ℕ} → Stage s out₀ c₀ out c 0 at line → eventsRun c₀ (eventsIn s) out₀ c out
 unfolding after linesOf eventsIn
 ends {s} {out₀} {c₀} {out} {c} {at} {line} g =
     let end : line ≡ length (eventsIn s) * 5 = (let a = g .room in omega arith) ∙ ap (λ (n : ℕ). n * 5) (sym (events-length s 0 (length s / 4))) in (
@@ -177,6 +174,6 @@ ends {s} {out₀} {c₀} {out} {c} {at} {line} g =
           ∙ ap (λ (x : List ℕ). linesOf c₀ (eventsIn s) ++ x) (g .rest ∙ ap (λ (n : ℕ). drop n out₀) end),
     )
 
-pub ended : {s out₀ : List ℕ} {c₀ : Clock} {out : List ℕ} {c : Clock} {left at line : ℕ} → left ≤ 0 → Stage s out₀ c₀ out c left at line → AllRun c₀ (eventsIn s) out₀ c out
+pub ended : {s out₀ : List ℕ} {c₀ : Clock} {out : List ℕ} {c : Clock} {left at line : ℕ} → left ≤ 0 → Stage s out₀ c₀ out c left at line → eventsRun c₀ (eventsIn s) out₀ c out
 ended {left = zero} h g = ends g
 ended {left = suc k} h g = absurd (not-suc-le-zero h)

@@ -24,9 +24,9 @@ use Rattle.script.specs.Lines.{linesOf}
 abbrev pub canRun : List ℕ → List Event → ℕ → ℕ → Type 0
 canRun s es n room = (n * 5 ≤ room) × ((firstOf es 0 .refusal ≡ 0) × ((wellFormedOf (clockOf s) ≡ true) × (bytesOf (clockOf s) ≡ s)))
 
--- what it leaves: bytes of the last state, and the lines with the output's rest
-abbrev pub eventsRun : List ℕ → List Event → List ℕ → List ℕ → List ℕ → Type 0
-eventsRun s es out last exit = (clockOf last ≡ afterOf (clockOf s) es) × (exit ≡ linesOf (clockOf s) es ++ drop (length es * 5) out)
+-- what running events into an output leaves: the last state, and the lines with the output's rest
+abbrev pub eventsRun : Clock → List Event → List ℕ → Clock → List ℕ → Type 0
+eventsRun c es out last exit = (last ≡ afterOf c es) × (exit ≡ linesOf c es ++ drop (length es * 5) out)
 
 -- what a run says: refusal, index, events, state, output
 pub record Run : Type 0 where

@@ -13,6 +13,7 @@ ghost use mathlib.Core.Path.{_≡_};
 ghost use Prim.Native.Nat.{_/_};
 ghost use lib.ListN.{length};
 ghost use Rattle.sd2068.specs.Power.{zeroStart};
+ghost use Rattle.state_bytes.specs.Decoded.{clockOf};
 ghost use Rattle.script.specs.Header.{headerOf};
 ghost use Rattle.script.specs.Event.{eventsIn};
 ghost use Rattle.script.specs.Checks.{checkedOf};
@@ -29,7 +30,7 @@ pub struct Ran {
 // The events one after the other on a state's bytes, a line for each: the checks have seen them all. (rule 9.5)
 fn run_events(state: &mut [u8], events: &[u8], out: &mut [u8])
     requires { ⌜ canRun (now state) (eventsIn (now events)) (length (now events) / 4) (length (now out)) ⌝ }
-    ensures { λ _. ⌜ eventsRun (now (state .entry)) (eventsIn (now (events .entry))) (now (out .entry)) (now (state .exit)) (now (out .exit)) ⌝ }
+    ensures { λ _. ⌜ eventsRun (clockOf (now (state .entry))) (eventsIn (now (events .entry))) (now (out .entry)) (clockOf (now (state .exit))) (now (out .exit)) ⌝ }
 {
     let mut left = events.len() / 4;
     let mut at = 0;

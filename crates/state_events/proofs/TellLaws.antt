@@ -6,12 +6,10 @@ use Prim.Native.Nat.{ℕ}
 use lib.Dec.{eqb}
 use lib.ListN.{length}
 use borrow.Author.Tests.{eq-eqb, eqb-true}
-use Rattle.fields.proofs.Picked.{picked}
 use Rattle.events.specs.declared.answer.Answer.{Answer}
 use Rattle.events.specs.declared.answer.Answer.the-variants.{Quiet}
 use Rattle.events.specs.Refusal.{faultOf}
 use Rattle.sd2068.specs.declared.clock.Clock.{Clock}
-use Rattle.sd2068.specs.declared.answers.Answered.{Answered}
 use Rattle.sd2068.specs.Pin.{pinOf}
 use Rattle.sd2068.specs.Step.{quietOf, eventOf, refusalOf, stepOf}
 use Rattle.sd2068.specs.WellFormed.{wellFormedOf}

@@ -1,6 +1,7 @@
 -- A file that is not refused has its sections and its room, and its first state is well formed. Assumes nothing.
 use mathlib.Core.Path.{ap, _∙_}
 use lib.ListN.{length}
+use Rattle.state_bytes.specs.Decoded.{clockOf}
 use Rattle.script.specs.declared.header.Header.{Header}
 use Rattle.script.specs.File.{goodOf}
 use Rattle.script.proofs.PartLaws.{ends}
@@ -91,7 +92,7 @@ returns c =
     let args = head .before .before .before .args in
     let began = start-taken (args .file .now) (head .header-of .result) (length (args .out .now)) (good-at head) (on .power-on .result) (on .power-on .ensures) in
     ran-good (args .file .now) (head .header-of .result) (length (args .out .now)) (good-at head) (on .power-on .result .clock) (encoded .bytes-of .result) began (encoded .bytes-of .ensures)
-    (args .out .now) (run .run-events .last .0) (c .clock-of .result) _ (run .run-events .ensures) (c .clock-of .ensures)
+    (args .out .now) (clockOf (run .run-events .last .0)) (c .clock-of .result) _ (run .run-events .ensures) (c .clock-of .ensures)
     ∙ ap (λ (h : Header). goodOf (args .file .now) h (args .out .now)) (head .header-of .ensures)
 
 pub run-good-spec : {M : Type 1} → statement M

@@ -1,5 +1,5 @@
 -- A legal date has a month in the table, and its day number is the definition's. Assumes nothing.
-use mathlib.Core.Path.{_≡_, _∙_, sym}
+use mathlib.Core.Path.{_∙_, sym}
 use Rattle.dates.specs.Dates.{dayOf, dayNumberOf}
 use Rattle.dates.proofs.DateLaws.{LegalDate, legal-date, month-small}
 use Rattle.dates.proofs.date.Date.number.Statement.{statement}

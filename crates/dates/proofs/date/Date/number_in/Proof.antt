@@ -1,5 +1,5 @@
 -- The entry of a legal date's month is in any table. Assumes nothing.
-use mathlib.Core.Path.{_≡_, _∙_, sym}
+use mathlib.Core.Path.{_∙_, sym}
 use Prim.Native.Nat.{_<_}
 use Rattle.dates.specs.Lent.{dayNumberInOf}
 use Rattle.dates.proofs.DateLaws.{legal-date, month-small}
