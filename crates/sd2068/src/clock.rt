@@ -6,15 +6,16 @@ use control::Lock;
 use countdown::Countdown;
 use hand::Hand;
 
+// The arrays first: pulses took longer with them among the groups.
 pub struct Clock {
+    pub ram: [u8; 12],
+    pub latched: [u8; 7],
     pub hand: Hand,
     pub alarm: Alarm,
     pub countdown: Countdown,
     pub lock: Lock,
     pub control: Control,
     pub rtcf: bool,
-    pub ram: [u8; 12],
-    pub latched: [u8; 7],
     pub divider: u32,
     pub bus: Bus,
 }
