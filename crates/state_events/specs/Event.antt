@@ -41,7 +41,7 @@ pub record Lent : Type 0 where
 abbrev pub lent : ℕ → List ℕ → Lent
 lent told state = record { told = told; state = state }
 
--- that, told with the pin that it leaves; bytes of another length stay, and are told 1
+-- the event, or nothing, told with the pin that it leaves; bytes of another length stay, and are told 1
 unfoldable pub tellIn : List ℕ → ℕ → ℕ → ℕ → ℕ → Lent
 tellIn s refusal kind byte count =
     let d = answeredIn s refusal kind byte count in
@@ -51,6 +51,7 @@ tellIn s refusal kind byte count =
 abbrev pub answeredOf : Clock → ℕ → ℕ → ℕ → Answered
 answeredOf c kind byte count = cond (eqb (refusalOf c kind byte count) 0) (eventOf c kind byte count) (quietOf c)
 
+-- what that tells, and the bytes of the state that it leaves
 unfoldable pub doneOf : Clock → ℕ → ℕ → ℕ → Lent
 doneOf c kind byte count =
     let a = answeredOf c kind byte count in
