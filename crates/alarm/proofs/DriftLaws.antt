@@ -11,6 +11,6 @@ module _ (a : Alarm) where
   pub drift-none : lessenedOf a 0 ≡ a
   drift-none = λ i. record { at = a .at; enable = a .enable; flag = a .flag; pulse = less-none (a .pulse) i }
 
-  pub drift-more : (k : ℕ) (t : Time) (asked : Bool) → asked ≡ false → rungOf (lessenedOf (lessenedOf a k) 1) t asked ≡ lessenedOf a (suc k)
+  pub drift-more : (k : ℕ) (s t : Time) (asked : Bool) → asked ≡ false → rungOf (lessenedOf (lessenedOf a k) 1) s t asked ≡ lessenedOf a (suc k)
   unfolding rungOf
-  drift-more k t asked off = simp off (λ i. record { at = a .at; enable = a .enable; flag = a .flag; pulse = less-more (a .pulse) k i })
+  drift-more k s t asked off = simp off (λ i. record { at = a .at; enable = a .enable; flag = a .flag; pulse = less-more (a .pulse) k i })

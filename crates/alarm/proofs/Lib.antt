@@ -1,3 +1,4 @@
 pub mod WellLaws
 pub mod DriftLaws
+pub mod RingLaws
 pub mod Settled

@@ -71,10 +71,10 @@ fields-stored t r b h s =
     }
 
 module _ (a : Alarm) (w : Well a) where
-  pub rung-well : (t : Time) (asked : Bool) → Well (rungOf a t asked)
+  pub rung-well : (s t : Time) (asked : Bool) → Well (rungOf a s t asked)
   unfolding rungOf
-  rung-well t asked =
-      record { at = w .at; enable = w .enable; pulse = picked (λ (n : ℕ). n ≤ 8192) (asked && ringsOf a t) (omega arith) (w .pulse) }
+  rung-well s t asked =
+      record { at = w .at; enable = w .enable; pulse = picked (λ (n : ℕ). n ≤ 8192) (asked && ringsOf a s t) (omega arith) (w .pulse) }
 
   pub lessened-well : (n : ℕ) → Well (lessenedOf a n)
   lessened-well n = record { at = w .at; enable = w .enable; pulse = omega (arith, w .pulse) }

@@ -9,16 +9,20 @@ use Rattle.registers.specs.Seven.{withByteOf}
 use Rattle.alarm.specs.Matching.{matchesOf}
 use Rattle.alarm.specs.declared.alarm.Alarm.{Alarm}
 
--- the alarm is enabled for some field, and each of those matches
-abbrev pub ringsOf : Alarm → Time → Bool
-ringsOf a t = not (eqb (a .enable) 0) && matchesOf (a .at) (a .enable) t
+-- each enabled field matches
+abbrev pub meetsOf : Alarm → Time → Bool
+meetsOf a t = matchesOf (a .at) (a .enable) t
+
+-- a second's end from s to t at which a match begins
+abbrev pub ringsOf : Alarm → Time → Time → Bool
+ringsOf a s t = meetsOf a t && not (meetsOf a s)
 
 -- an alarm that rings sets its flag and begins a pin pulse
 abbrev pub rungBy : Bool → Alarm → Alarm
 rungBy rings a = record { at = a .at; enable = a .enable; flag = rings || a .flag; pulse = cond rings 8192 (a .pulse) }
 
-unfoldable pub rungOf : Alarm → Time → Bool → Alarm
-rungOf a t asked = rungBy (asked && ringsOf a t) a
+unfoldable pub rungOf : Alarm → Time → Time → Bool → Alarm
+rungOf a s t asked = rungBy (asked && ringsOf a s t) a
 
 -- its pin pulse n pulses on
 abbrev pub lessenedOf : Alarm → ℕ → Alarm

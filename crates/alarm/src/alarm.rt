@@ -18,18 +18,18 @@ pub struct Alarm {
 }
 
 impl Alarm {
-    // Judged where asked: at a second's end, INTAE being 1. (rule 5.1)
-    pub fn rung(self, t: Time, asked: bool) -> Alarm
-        ensures { λ r. ⌜ r ≡ rungOf self t asked ⌝ }
+    // Judged where asked: at a second's end from s to t, INTAE being 1. (rule 5.1)
+    pub fn rung(self, s: Time, t: Time, asked: bool) -> Alarm
+        ensures { λ r. ⌜ r ≡ rungOf self s t asked ⌝ }
     {
-        if asked { self.judged(t) } else { self }
+        if asked { self.judged(s, t) } else { self }
     }
 
-    fn judged(mut self, t: Time) -> Alarm
-        ensures { λ r. ⌜ r ≡ rungOf self t true ⌝ }
+    fn judged(mut self, s: Time, t: Time) -> Alarm
+        ensures { λ r. ⌜ r ≡ rungOf self s t true ⌝ }
     {
         let flag = self.flag;
-        let rings = (self.enable != 0) & matches(self.at, self.enable, t);
+        let rings = matches(self.at, self.enable, t) & !matches(self.at, self.enable, s);
         self.flag = rings | flag;
         self.pulse = choose(rings, 8192, self.pulse);
         self

@@ -49,8 +49,9 @@ module _ (c : Clock) (w : Well c) where
   rang : momentOf c (pulseOf c) .alarm ≡ rangOf c
   unfolding momentOf pulseOf alarm.rungOf
   rang =
-      whole ((eqb (tickedOf (c .hand) .counter) 0 && c .control .intae) && alarm.ringsOf (c .alarm) (tickedOf (c .hand) .time)) (c .alarm .pulse) (w .alarm .pulse)
-      ∙ ap (λ (ended : Bool). (ended && c .control .intae) && alarm.ringsOf (c .alarm) (tickedOf (c .hand) .time)) (counter-tells (c .hand))
+      let begins = alarm.ringsOf (c .alarm) (c .hand .time) (tickedOf (c .hand) .time) in
+      whole ((eqb (tickedOf (c .hand) .counter) 0 && c .control .intae) && begins) (c .alarm .pulse) (w .alarm .pulse)
+      ∙ ap (λ (ended : Bool). (ended && c .control .intae) && begins) (counter-tells (c .hand))
 
   -- from a well-formed state, a pulse's moment is what the rules of its stages say
   pub moment-told : momentOf c (pulseOf c) ≡ pulseMoment c

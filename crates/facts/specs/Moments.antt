@@ -39,9 +39,9 @@ zeroedOf c = ticksOf (c .countdown) (c .control .intde) (tdsOf (c .control .ctr3
 abbrev pub endedOf : Clock → Bool
 endedOf c = endsOf (c .hand)
 
--- it ends, INTAE is 1, and the alarm rings at the time that it leads to
+-- it ends, INTAE is 1, and the alarm's match begins with the time that it leads to
 abbrev pub rangOf : Clock → Bool
-rangOf c = (endedOf c && c .control .intae) && ringsOf (c .alarm) (tickedOf (c .hand) .time)
+rangOf c = (endedOf c && c .control .intae) && ringsOf (c .alarm) (c .hand .time) (tickedOf (c .hand) .time)
 
 unfoldable pub pulseMoment : Clock → Moment
 pulseMoment c = record { timeout = timedOutOf (c .bus .phase); zero = zeroedOf c; second = endedOf c; alarm = rangOf c }

@@ -53,9 +53,9 @@ module _ (r : ℕ → ℕ) (i : Inner) where
   unfoldable pub fires : Bool
   fires = ticks && eqb (r 0x13) 1
 
-  -- the alarm rings: a second ended, INTAE is 1, and 0Eh enables some field and each that it enables matches the new time (rule 5.1)
+  -- the alarm rings: a second ended, INTAE is 1, 0Eh enables some field, and those that it enables match the new time and did not match the one before (rule 5.1)
   unfoldable pub rings : Bool
-  rings = ends && bit 1 (r 0x10) && (not (eqb (r 0x0E) 0) && matchesAt r timeAfter)
+  rings = ends && bit 1 (r 0x10) && (not (eqb (r 0x0E) 0) && (matchesAt r timeAfter && not (matchesAt r (sevenFrom 0x00 r))))
 
   -- the registers after it: the time; INTAF and INTDF; the count; no other moves (rules 4.1, 5.5, 5.8 and 5.9)
   unfoldable pub pulsedAt : ℕ → ℕ

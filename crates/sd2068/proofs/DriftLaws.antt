@@ -59,7 +59,7 @@ module _ (c : Clock) where
       λ i.
       record {
         hand = hand-laws.drift-more (c .hand) k (room .second) i;
-        alarm = alarm-laws.drift-more (c .alarm) k (h .time) _ unasked i;
+        alarm = alarm-laws.drift-more (c .alarm) k (c .hand .time) (h .time) _ unasked i;
         countdown = countdown-laws.drift-more (c .countdown) tds (c .control .intde) k (room .tick) i;
         lock = c .lock;
         control = c .control;

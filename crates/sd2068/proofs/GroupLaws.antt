@@ -7,6 +7,7 @@ use Prim.Native.Nat.{ℕ, zero, suc, _≤_, _<_}
 use native.Mathlib.Omega.{arith}
 use lib.Dec.{eqb, ltb}
 use borrow.Author.Tests.{lt-ltb, le-ltb, ne-eqb}
+use Rattle.calendar.specs.declared.time.Time.{Time}
 use Rattle.calendar.specs.Repeat.{times}
 use Rattle.hand.specs.declared.hand.Hand.{Hand}
 use Rattle.hand.specs.Hand.{tickedOf}
@@ -57,8 +58,8 @@ module _ (c : Clock) where
   pub advanced-alone : withHand (advancedOf c) (c .hand) ≡ c
   advanced-alone = refl
 
-  pub rung-alone : withAlarm (rungOf c) (c .alarm) ≡ c
-  rung-alone = refl
+  pub rung-alone : (before : Time) → withAlarm (rungOf before c) (c .alarm) ≡ c
+  rung-alone before = refl
 
   pub start-alone : withBus (startedOf c) (c .bus) ≡ c
   start-alone = refl
@@ -177,7 +178,7 @@ watchTurn s =
       control = s .control;
       hand = tickedOf (s .hand);
       alarm =
-          alarm.rungOf (alarm.lessenedOf (s .alarm) 1) (tickedOf (s .hand) .time)
+          alarm.rungOf (alarm.lessenedOf (s .alarm) 1) (s .hand .time) (tickedOf (s .hand) .time)
           (eqb (tickedOf (s .hand) .counter) 0 && s .control .intae);
     }
 

@@ -145,7 +145,7 @@ module _ (c : Clock) (w : Well c) where
         hand = hand-laws.ticked-well (c .hand) (w .hand);
         alarm =
             alarm-laws.rung-well (alarm.lessenedOf (c .alarm) 1) (alarm-laws.lessened-well (c .alarm) (w .alarm) 1)
-            (hand.tickedOf (c .hand) .time) (eqb (hand.tickedOf (c .hand) .counter) 0 && c .control .intae);
+            (c .hand .time) (hand.tickedOf (c .hand) .time) (eqb (hand.tickedOf (c .hand) .counter) 0 && c .control .intae);
         countdown =
             countdown-laws.counted-well (countdown.lessenedOf (c .countdown) 1) (countdown-laws.lessened-well (c .countdown) (w .countdown) 1)
             (c .control .intde) (tdsOf (c .control .ctr3));

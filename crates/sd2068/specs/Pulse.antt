@@ -2,6 +2,7 @@
 use mathlib.Core.Bool.{_&&_}
 use Prim.Native.Nat.{ℕ, _+_, _%_}
 use lib.Dec.{eqb}
+use Rattle.calendar.specs.declared.time.Time.{Time}
 use Rattle.calendar.specs.Repeat.{times}
 use Rattle.hand.specs.Hand as hand
 use Rattle.hand.specs.Hand.{tickedOf}
@@ -35,12 +36,14 @@ countedOf c = withCountdown c (countdown.countedOf (c .countdown) (c .control .i
 abbrev pub advancedOf : Clock → Clock
 advancedOf c = withHand c (tickedOf (c .hand))
 
--- alarm: the second counter is 0 right after the time advanced, and only then
-abbrev pub rungOf : Clock → Clock
-rungOf c = withAlarm c (alarm.rungOf (c .alarm) (c .hand .time) (eqb (c .hand .counter) 0 && c .control .intae))
+-- alarm, with the time just before the advance: the second counter is 0 right after the time advanced, and only then
+abbrev pub rungOf : Time → Clock → Clock
+rungOf before c = withAlarm c (alarm.rungOf (c .alarm) before (c .hand .time) (eqb (c .hand .counter) 0 && c .control .intae))
 
 unfoldable pub pulseOf : Clock → Clock
-pulseOf c = rungOf (advancedOf (countedOf (pinPulsedOf (dividedOf (agedOf c)))))
+pulseOf c =
+    let ready = countedOf (pinPulsedOf (dividedOf (agedOf c))) in
+    rungOf (ready .hand .time) (advancedOf ready)
 
 -- n pulses
 abbrev pub pulsesOf : Clock → ℕ → Clock

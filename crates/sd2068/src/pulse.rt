@@ -1,6 +1,7 @@
 // One pulse, stage by stage, and many. (rules 4.5 to 4.7)
 use crate::clock::Clock;
 use crate::controls::tds;
+use calendar::Time;
 ghost use mathlib.Core.Path.{_≡_};
 ghost use Rattle.sd2068.specs.Pulse.{agedOf, turnedByOf, dividedOf, pinPulsedOf, countedOf, advancedOf, rungOf, pulseOf, withinOf, driftedOf, pulsesOf};
 
@@ -54,12 +55,12 @@ impl Clock {
         self
     }
 
-    // Alarm: the second counter is 0 right after the time advanced, and only then. (rule 5.1)
-    fn rung(mut self) -> Clock
-        ensures { λ r. ⌜ r ≡ rungOf self ⌝ }
+    // Alarm, with the time just before the advance: the second counter is 0 right after it, and only then. (rule 5.1)
+    fn rung(mut self, before: Time) -> Clock
+        ensures { λ r. ⌜ r ≡ rungOf before self ⌝ }
     {
         let asked = (self.hand.counter == 0) & self.control.intae;
-        self.alarm = self.alarm.rung(self.hand.time, asked);
+        self.alarm = self.alarm.rung(before, self.hand.time, asked);
         self
     }
 
@@ -67,12 +68,10 @@ impl Clock {
     fn pulse(self) -> Clock
         ensures { λ r. ⌜ r ≡ pulseOf self ⌝ }
     {
-        self.aged()
-            .divided()
-            .pin_pulsed()
-            .counted()
-            .advanced()
-            .rung()
+        let ready = self.aged().divided().pin_pulsed().counted();
+        let hand = ready.hand;
+        let before = hand.time;
+        ready.advanced().rung(before)
     }
 
     // Of the next n pulses, as many as only count: they end no second and make no tick. (rules 4.1 and 5.7)

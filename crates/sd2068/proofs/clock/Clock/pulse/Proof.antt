@@ -23,7 +23,7 @@ rung-requires c κs = tt
 
 returns : tie.Need-returns
 unfolding pulseOf
-returns c = simp (c .rung .ensures, c .before .advanced .ensures, c .before .before .counted .ensures, c .before .before .before .pin-pulsed .ensures, c .before .before .before .before .divided .ensures, c .before .before .before .before .before .aged .ensures)
+returns c = simp (c .rung .ensures, c .before .advanced .ensures, c .before .before .before .before .counted .ensures, c .before .before .before .before .before .pin-pulsed .ensures, c .before .before .before .before .before .before .divided .ensures, c .before .before .before .before .before .before .before .aged .ensures)
 
 pub pulse-spec : {M : Type 1} → statement M
 pulse-spec =
