@@ -18,13 +18,17 @@ use Rattle.alarm.specs.Matching.{weekdayIn, off, matchesOf}
 use Rattle.alarm.specs.Alarm.{meetsOf, ringsOf}
 use Rattle.alarm.specs.declared.alarm.Alarm.{Alarm}
 
+pub and-true : (x : Bool) → x && true ≡ x
+and-true true = refl
+and-true false = refl
+
+pub and-none : (x : Bool) → x && false ≡ false
+and-none true = refl
+and-none false = refl
+
 -- while a match lasts nothing rings, from whatever time it is entered
 pub match-lasts : (a : Alarm) (s t : Time) → meetsOf a s ≡ true → ringsOf a s t ≡ false
-match-lasts a s t e = rw e (by (meetsOf a t))
-  where
-    by : (x : Bool) → x && false ≡ false
-    by true = refl
-    by false = refl
+match-lasts a s t e = rw e (and-none (meetsOf a t))
 
 -- an empty 0Eh is a match that never begins
 pub empty-meets : (a : Alarm) (t : Time) → a .enable ≡ 0 → meetsOf a t ≡ true
@@ -48,10 +52,6 @@ moves = each (λ (x : ℕ). not (eqb (stepOf 0x00 0x59 x) x)) 256 tt
 not-same : (b : Bool) → T (not b) → b ≡ false
 not-same true t = absurd t
 not-same false t = refl
-
-and-true : (x : Bool) → x && true ≡ x
-and-true true = refl
-and-true false = refl
 
 -- an alarm that compares the seconds rings wherever it matches
 module _ (a : Alarm) (on : off 0x01 (a .enable) ≡ false) where
