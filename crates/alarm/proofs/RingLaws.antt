@@ -2,8 +2,9 @@
 use mathlib.Core.Path.{_≡_, refl, sym, ap, _∙_}
 use mathlib.Core.Bool.{Bool, true, false, cond, _&&_, not, Bool·beq, true≢false}
 use Prim.Native.Nat.{ℕ, _<_}
+use native.Mathlib.Decide.{ℕ-discrete}
 use lib.Dec.{T, eqb}
-use borrow.Author.Tests.{eqb-true}
+use borrow.Author.Tests.{eqb-true, ne-eqb}
 use Rattle.fields.specs.Digits.{stepOf}
 use Rattle.fields.specs.declared.times.TimeOfDay.{TimeOfDay}
 use Rattle.fields.specs.Times.{nextTimeOf, midnightOf}
@@ -37,6 +38,14 @@ empty-meets a t e = rw e refl
 
 pub empty-silent : (a : Alarm) (s t : Time) → a .enable ≡ 0 → ringsOf a s t ≡ false
 empty-silent a s t e = match-lasts a s t (empty-meets a s e)
+
+-- so 0Eh need not be asked for a field
+pub enabled-rings : (a : Alarm) (s t : Time) → ringsOf a s t ≡ (not (eqb (a .enable) 0) && ringsOf a s t)
+enabled-rings a s t =
+    elim (ℕ-discrete (a .enable) 0) [
+      | yes e ↦ rw (empty-silent a s t e) (sym (and-none (not (eqb (a .enable) 0))))
+      | no n ↦ rw (ne-eqb (a .enable) 0 n) refl
+    ]
 
 -- nothing begins where the match is as it was
 unmoved : (x y : Bool) → x ≡ y → x && not y ≡ false

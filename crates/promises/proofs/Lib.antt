@@ -8,6 +8,7 @@ pub mod StoreLaws
 pub mod WriteLaws
 pub mod TransferLaws
 pub mod PulseLaws
+pub mod RingLaws
 pub mod StateLaws
 pub mod SeenLaws
 pub mod ViewLaws

@@ -1,13 +1,16 @@
 -- Everything that is promised of the clock, in one place: each promise is stated here, and its proof is the law that it cites. Assumes nothing.
-use mathlib.Core.Path.{_≡_, sym, ap, subst}
+use mathlib.Core.Path.{_≡_, sym, ap, subst, _∙_}
 use mathlib.Core.Logic.{_⊎_, _↔_}
-use mathlib.Core.Bool.{true, false, _&&_, not}
+use mathlib.Core.Bool.{Bool, true, false, cond, _&&_, not}
 use mathlib.Core.List.{List, [], _∷_, _++_, map}
 use mathlib.Core.Option.{some}
-use Prim.Native.Nat.{ℕ, _+_, _*_, _<_}
+use Prim.Native.Nat.{ℕ, _+_, _*_, _%_, _<_}
 use lib.ListN.{length, getD, drop}
+use Rattle.fields.specs.Digits.{valueOf, legalOf}
 use Rattle.fields.specs.Hours.{modeOf, hourNumberOf}
+use Rattle.fields.specs.Times.{midnightOf}
 use Rattle.calendar.specs.declared.time.Time.{Time}
+use Rattle.calendar.specs.Advance as advance
 use Rattle.calendar.specs.Numbers.{numberOf}
 use Rattle.calendar.specs.Repeat.{times}
 use Rattle.registers.specs.Fixed.{keptOf, clearOf}
@@ -67,7 +70,8 @@ use Rattle.sd2068_abi.proofs.RefusedLaws as refused
 use Rattle.sd2068_abi.proofs.RunLaws as runs
 use Rattle.sd2068_abi.proofs.Settled as boards
 use Rattle.promises.specs.Fixed.{fixed}
-use Rattle.promises.specs.Registers.{bit, viewOf, Looks, State, lockOpen}
+use Rattle.promises.specs.Registers.{bit, Inner, innerOf, viewOf, Looks, State, lockOpen}
+use Rattle.promises.specs.Ring.{timeBefore, timeNext, Judged, Matched, Begins, Matching, Silent, Evening}
 use Rattle.promises.specs.Seen.{Seen, Shows, startSeen, stopSeen, byteSeen, readSeen, pulsesSeen, lossSeen, poweredView, startAt, eventSeen}
 use Rattle.promises.specs.Script.{readsIn, Scripted, fromAddress, KeepsTimeIn}
 use Rattle.promises.specs.Board.{OnBoard, KeepsTimeOn, digitsTold}
@@ -76,6 +80,7 @@ use Rattle.promises.specs.Marked.{Marked}
 use Rattle.promises.proofs.FixedLaws as bits
 use Rattle.promises.proofs.LockLaws as lock
 use Rattle.promises.proofs.SeenLaws as seen
+use Rattle.promises.proofs.RingLaws as ring
 use Rattle.promises.proofs.StateLaws as state
 use Rattle.promises.proofs.ViewLaws as view
 use Rattle.promises.proofs.ScriptLaws.{script-kept}
@@ -264,6 +269,82 @@ all-registers c = (registers.registers-length c 32, registers.registers-listed c
 -- what a step shows leaves one result and no other
 pub one-step : (r q : Told) (s : Seen) → State (r .state) → State (q .state) → Shows r s → Shows q s → r ≡ q
 one-step = view.one-step
+
+-- INTAF is set, and the pin pulse begun, only by an advance of the time after which the enabled fields match and just before which they did not, both judged with the registers as they stand then.
+
+module _ (c : Clock) (w : State c) where
+  -- INTAF after one pulse is 1 exactly if it was 1 or a match begins, and the pin pulse is 8,192 exactly if a match begins
+  pub intaf-set :
+      (bit 5 (registerOf (stepOf c 5 0 1 .state) 0x0F) ≡ true) ↔ ((bit 5 (registerOf c 0x0F) ≡ true) ⊎ Begins (registerOf c) (innerOf c))
+  intaf-set = ring.intaf-set c w
+
+  pub pin-pulse-begun : (innerOf (stepOf c 5 0 1 .state) .alarmPulse ≡ 8192) ↔ Begins (registerOf c) (innerOf c)
+  pin-pulse-begun = ring.pulse-begun c w
+
+  -- while a match lasts nothing rings
+  pub match-lasts : (n : ℕ) → ((m : ℕ) → m < n → Matching (stepOf c 5 0 m .state)) → Silent c (stepOf c 5 0 n .state) n
+  match-lasts = ring.match-lasts c w
+
+  -- so a flag that is cleared inside it stays clear until it has ended
+  pub cleared-stays :
+      bit 5 (registerOf c 0x0F) ≡ false → (n : ℕ) → ((m : ℕ) → m < n → Matching (stepOf c 5 0 m .state))
+      → bit 5 (registerOf (stepOf c 5 0 n .state) 0x0F) ≡ false
+  cleared-stays clear n lasts = match-lasts n lasts .intaf ∙ clear
+
+  -- however it was entered: by any step, whether it stored a byte of the time, of the alarm, at 0Eh or at 10h
+  pub match-entered :
+      (kind byte count : ℕ) → let d = stepOf c kind byte count .state in
+      (n : ℕ) → ((m : ℕ) → m < n → Matching (stepOf d 5 0 m .state)) → Silent d (stepOf d 5 0 n .state) n
+  match-entered kind byte count = ring.match-lasts (stepOf c kind byte count .state) (step-state c w kind byte count)
+
+  -- an empty 0Eh never rings
+  pub empty-silent : registerOf c 0x0E ≡ 0 → (n : ℕ) → Silent c (stepOf c 5 0 n .state) n
+  empty-silent = ring.empty-silent c w
+
+module _ (r : ℕ → ℕ) (i : Inner) where
+  -- the registers as they stand decide, and INTAF is not asked
+  pub judged-alike : (q : ℕ → ℕ) (k : Inner) → ((a : ℕ) → (a ≡ 0x0F → ⊥) → r a ≡ q a) → i .counter ≡ k .counter → Begins r i → Begins q k
+  judged-alike = ring.judged-alike r i
+
+  -- an alarm that compares the seconds rings at each match, as often as it did without the second condition
+  pub seconds-compared : r 0x00 < 256 → bit 0 (r 0x0E) ≡ true → (Begins r i) ↔ (Matched r i)
+  seconds-compared = ring.seconds-begins r i
+
+  -- without the seconds a ring comes only as they come to 00h, without the minutes only as both do, and with date fields alone only at a midnight
+  module _ (b : Begins r i) where
+    pub by-minute : bit 0 (r 0x0E) ≡ false → timeNext r .seconds ≡ 0x00
+    by-minute = ring.minute-begins r i b
+
+    pub by-hour : bit 0 (r 0x0E) ≡ false → bit 1 (r 0x0E) ≡ false → (timeNext r .seconds ≡ 0x00) × (timeNext r .minutes ≡ 0x00)
+    by-hour = ring.hour-begins r i b
+
+    pub by-date : bit 0 (r 0x0E) ≡ false → bit 1 (r 0x0E) ≡ false → bit 2 (r 0x0E) ≡ false → midnightOf (advance.clockOf (timeNext r)) ≡ true
+    by-date = ring.date-begins r i b
+
+  module _ (j : Judged r i) where
+    -- a seconds-only alarm rings once in each minute
+    pub once-a-minute :
+        r 0x0E ≡ 0x01 → legalOf 0x00 0x59 (r 0x07) ≡ true → (k : ℕ) → numberOf (timeBefore r) ≡ some k → (Begins r i) ↔ ((k + 1) % 60 ≡ valueOf (r 0x07))
+    once-a-minute = ring.minutely r i j
+
+    -- a weekday-only alarm for Monday with Tuesday rings at the midnight into Monday, and at no other second
+    pub monday-with-tuesday :
+        r 0x0E ≡ 0x08 → r 0x0A ≡ 0x06 → r 0x03 < 8 → (Begins r i) ↔ ((midnightOf (advance.clockOf (timeNext r)) ≡ true) × (timeNext r .weekday ≡ 1))
+    monday-with-tuesday = ring.mondays r i j
+
+    -- the sheet's alarm by year, month, day and hour rings once in the whole century
+    pub once-a-century : Evening r → (k : ℕ) → numberOf (timeBefore r) ≡ some k → (Begins r i) ↔ ((k + 1) % 3155760000 ≡ 271540800)
+    once-a-century = ring.evening r i j
+
+  -- its 20h is no hour of a 12-hour clock, and never rings there
+  pub twelve-hour-silent : bit 2 (r 0x0E) ≡ true → r 0x09 % 64 ≡ 0x20 → r 0x02 < 0x80 → (k : ℕ) → numberOf (timeBefore r) ≡ some k → Begins r i → ⊥
+  twelve-hour-silent = ring.no-such-hour r i
+
+-- the second of that ring, in both hour modes
+pub evening-number :
+    (twelve : Bool) (w : ℕ)
+    → numberOf (record { seconds = 0x00; minutes = 0x00; hours = cond twelve 0x28 0xA0; weekday = w; day = 0x08; month = 0x08; year = 0x08 }) ≡ some 271540800
+evening-number = ring.games-number
 
 -- a file that is not refused is run: all E events that its bytes list, from its start bytes, a line for each, and the output behind them stays
 module _ (file out : List ℕ) (accepted : runOf file out .refusal ≡ 0) where

@@ -17,6 +17,7 @@ use Rattle.hand.specs.Hand.{endsOf, tickedOf}
 use Rattle.hand.proofs.SecondLaws.{counter-tells}
 use Rattle.alarm.specs.Matching.{weekdayIn, matchesOf}
 use Rattle.alarm.specs.Alarm as alarm
+use Rattle.alarm.proofs.RingLaws.{enabled-rings}
 use Rattle.countdown.specs.Countdown as countdown
 use Rattle.countdown.specs.Countdown.{limitOf, downOf, ticksOf}
 use Rattle.control.specs.Lock.{ctr1Of}
@@ -63,7 +64,7 @@ weekday-by (suc zero) (suc (suc d)) h l known set = absurd (omega (arith, l))
 weekday-by (suc (suc k)) d h l known set = absurd (omega (arith, h))
 
 -- the alarm's fields match as they do by the register numbers
-matches-same : (r : ℕ → ℕ) (t : Time) → matchesOf (sevenFrom 0x07 r) (r 0x0E) t ≡ matchesAt r t
+pub matches-same : (r : ℕ → ℕ) (t : Time) → matchesOf (sevenFrom 0x07 r) (r 0x0E) t ≡ matchesAt r t
 unfolding matchesOf weekdayIn matchesAt
 matches-same r t =
     λ i.
@@ -110,22 +111,25 @@ module _ (c : Clock) where
   time-same = ap (λ (e : Bool). cond e (advanceOf (c .hand .time)) (c .hand .time)) ends-same
 
   -- the alarm is asked and rings
-  abbrev rung : Bool
-  rung =
-      eqb (tickedOf (c .hand) .counter) 0 && c .control .intae
-      && (not (eqb (c .alarm .enable) 0) && matchesOf (c .alarm .at) (c .alarm .enable) (tickedOf (c .hand) .time))
+  abbrev pub rung : Bool
+  rung = eqb (tickedOf (c .hand) .counter) 0 && c .control .intae && alarm.ringsOf (c .alarm) (c .hand .time) (tickedOf (c .hand) .time)
 
   matched-same : matchesOf (c .alarm .at) (c .alarm .enable) (tickedOf (c .hand) .time) ≡ matchesAt (registerOf c) (timeAfter (registerOf c) (innerOf c))
   unfolding registerOf controlAtOf byteAtOf
   matched-same = ap (matchesOf (c .alarm .at) (c .alarm .enable)) time-same ∙ matches-same (registerOf c) (timeAfter (registerOf c) (innerOf c))
 
+  before-same : matchesOf (c .alarm .at) (c .alarm .enable) (c .hand .time) ≡ matchesAt (registerOf c) (sevenFrom 0x00 (registerOf c))
+  unfolding registerOf controlAtOf byteAtOf
+  before-same = matches-same (registerOf c) (c .hand .time)
+
   asked-same : eqb (tickedOf (c .hand) .counter) 0 ≡ ends (registerOf c) (innerOf c)
   asked-same = counter-tells (c .hand) ∙ ends-same
 
-  rings-same : rung ≡ rings (registerOf c) (innerOf c)
+  pub rings-same : rung ≡ rings (registerOf c) (innerOf c)
   unfolding rings registerOf controlAtOf byteAtOf
   rings-same =
-      λ i. asked-same i && sym (intae c) i && (not (eqb (c .alarm .enable) 0) && matched-same i)
+      ap (λ (begins : Bool). eqb (tickedOf (c .hand) .counter) 0 && c .control .intae && begins) (enabled-rings (c .alarm) (c .hand .time) (tickedOf (c .hand) .time))
+      ∙ (λ i. asked-same i && sym (intae c) i && (not (eqb (c .alarm .enable) 0) && (matched-same i && not (before-same i))))
 
   -- register a after the pulse
   abbrev Pulsed : ℕ → Type 0

@@ -3,6 +3,7 @@ pub mod Fixed
 pub mod Pin
 pub mod Written
 pub mod Pulsed
+pub mod Ring
 pub mod Seen
 pub mod Script
 pub mod Ledger
