@@ -1,11 +1,11 @@
 -- When an alarm rings, by second numbers: once in each minute, and once in a century. Assumes nothing.
 use mathlib.Core.Path.{_≡_, refl, sym, ap, ap₂, _∙_}
-use mathlib.Core.Bool.{Bool, true, false, _&&_, _||_, not, true≢false, false≢true}
+use mathlib.Core.Bool.{Bool, true, false, _&&_, _||_, not, false≢true}
 use Prim.Native.Nat.{ℕ, _+_, _*_, _/_, _%_, _<_}
 use native.Mathlib.Decide.{ℕ-discrete}
 use native.Mathlib.Omega.{arith}
-use lib.Dec.{eqb, ltb}
-use borrow.Author.Tests.{eqb-true, eq-eqb, ne-eqb, lt-ltb}
+use lib.Dec.{eqb}
+use borrow.Author.Tests.{eqb-true, eq-eqb, ne-eqb}
 use Rattle.fields.specs.declared.hours.HourMode.{HourMode}
 use Rattle.fields.specs.declared.hours.HourMode.the-variants.{Twelve, TwentyFour}
 use Rattle.fields.specs.Digits.{valueOf, byteOf}
@@ -13,13 +13,12 @@ use Rattle.fields.specs.Hours.{modeOf, codes, placeOf, hourNumberOf, hourByteOf
 use Rattle.fields.specs.Times.{secondOf}
 use Rattle.fields.proofs.Below.{agree}
 use Rattle.fields.proofs.FieldLaws.{Held, and-left, and-right, byte-value}
-use Rattle.fields.proofs.HourLaws.{byte-number, mode-byte}
-use Rattle.fields.proofs.TimeLaws.{LegalTime}
+use Rattle.fields.proofs.HourLaws.{byte-number}
 use Rattle.dates.specs.declared.date.Date.{Date}
 use Rattle.dates.specs.Dates.{dayOf, monthOf, dateIn}
 use Rattle.dates.proofs.DateLaws.{LegalDate, date-again}
 use Rattle.calendar.specs.declared.time.Time.{Time}
-use Rattle.calendar.specs.Advance.{clockOf, dateOf, advanceOf}
+use Rattle.calendar.specs.Advance.{dateOf, advanceOf}
 use Rattle.calendar.specs.Numbers.{sinceOf}
 use Rattle.calendar.proofs.MomentLaws.{Moment, since-small}
 use Rattle.calendar.proofs.AdvanceLaws.{advances, advance-mode}

@@ -16,7 +16,7 @@ use Rattle.calendar.specs.Weekdays.{nextWeekdayOf}
 use Rattle.calendar.specs.Advance.{clockOf, advanceOf}
 use Rattle.calendar.proofs.AdvanceLaws.{advance-weekday}
 use Rattle.alarm.specs.Matching.{weekdayIn, off, matchesOf}
-use Rattle.alarm.specs.Alarm.{meetsOf, ringsOf}
+use Rattle.alarm.specs.Alarm.{meetsOf, ringsOf, rungOf}
 use Rattle.alarm.specs.declared.alarm.Alarm.{Alarm}
 
 pub and-true : (x : Bool) → x && true ≡ x
@@ -27,9 +27,24 @@ pub and-none : (x : Bool) → x && false ≡ false
 and-none true = refl
 and-none false = refl
 
+-- nothing begins where the match is as it was
+unmoved : (x y : Bool) → x ≡ y → x && not y ≡ false
+unmoved true true e = refl
+unmoved true false e = absurd (true≢false e)
+unmoved false y e = refl
+
 -- while a match lasts nothing rings, from whatever time it is entered
 pub match-lasts : (a : Alarm) (s t : Time) → meetsOf a s ≡ true → ringsOf a s t ≡ false
 match-lasts a s t e = rw e (and-none (meetsOf a t))
+
+-- so flag and pin pulse stay as they are, and where a match begins the one is set and the other whole
+pub lasts-alone : (a : Alarm) (s t : Time) (asked : Bool) → meetsOf a s ≡ true → rungOf a s t asked ≡ a
+unfolding rungOf
+lasts-alone a s t asked e = rw (match-lasts a s t e, and-none asked) refl
+
+pub begins-whole : (a : Alarm) (s t : Time) → meetsOf a t ≡ true → meetsOf a s ≡ false → rungOf a s t true ≡ record { at = a .at; enable = a .enable; flag = true; pulse = 8192 }
+unfolding rungOf
+begins-whole a s t now before = rw (now, before) refl
 
 -- an empty 0Eh is a match that never begins
 pub empty-meets : (a : Alarm) (t : Time) → a .enable ≡ 0 → meetsOf a t ≡ true
@@ -46,12 +61,6 @@ enabled-rings a s t =
       | yes e ↦ rw (empty-silent a s t e) (sym (and-none (not (eqb (a .enable) 0))))
       | no n ↦ rw (ne-eqb (a .enable) 0 n) refl
     ]
-
--- nothing begins where the match is as it was
-unmoved : (x y : Bool) → x ≡ y → x && not y ≡ false
-unmoved true true e = refl
-unmoved true false e = absurd (true≢false e)
-unmoved false y e = refl
 
 -- the seconds never stay where they are
 moves : (x : ℕ) → x < 256 → T (not (eqb (stepOf 0x00 0x59 x) x))

@@ -62,7 +62,7 @@ module _ (c : Clock) (w : Well c) where
 abbrev single : Clock → Clock
 single c = stepOf c 5 0 1 .state
 
-pub single-pulse : (c : Clock) → Well c → single c ≡ pulseOf c
+single-pulse : (c : Clock) → Well c → single c ≡ pulseOf c
 unfolding eventOf times
 single-pulse c w = ap (λ (t : Told). t .state) (step-taken c w 5 0 1 refl)
 

@@ -9,6 +9,7 @@ pub mod WriteLaws
 pub mod TransferLaws
 pub mod PulseLaws
 pub mod RingLaws
+pub mod SilentLaws
 pub mod StateLaws
 pub mod SeenLaws
 pub mod ViewLaws

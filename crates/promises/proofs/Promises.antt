@@ -81,6 +81,7 @@ use Rattle.promises.proofs.FixedLaws as bits
 use Rattle.promises.proofs.LockLaws as lock
 use Rattle.promises.proofs.SeenLaws as seen
 use Rattle.promises.proofs.RingLaws as ring
+use Rattle.promises.proofs.SilentLaws as pulsed
 use Rattle.promises.proofs.StateLaws as state
 use Rattle.promises.proofs.ViewLaws as view
 use Rattle.promises.proofs.ScriptLaws.{script-kept}
@@ -276,14 +277,14 @@ module _ (c : Clock) (w : State c) where
   -- INTAF after one pulse is 1 exactly if it was 1 or a match begins, and the pin pulse is 8,192 exactly if a match begins
   pub intaf-set :
       (bit 5 (registerOf (stepOf c 5 0 1 .state) 0x0F) ≡ true) ↔ ((bit 5 (registerOf c 0x0F) ≡ true) ⊎ Begins (registerOf c) (innerOf c))
-  intaf-set = ring.intaf-set c w
+  intaf-set = pulsed.intaf-set c w
 
   pub pin-pulse-begun : (innerOf (stepOf c 5 0 1 .state) .alarmPulse ≡ 8192) ↔ Begins (registerOf c) (innerOf c)
-  pin-pulse-begun = ring.pulse-begun c w
+  pin-pulse-begun = pulsed.pulse-begun c w
 
   -- while a match lasts nothing rings
   pub match-lasts : (n : ℕ) → ((m : ℕ) → m < n → Matching (stepOf c 5 0 m .state)) → Silent c (stepOf c 5 0 n .state) n
-  match-lasts = ring.match-lasts c w
+  match-lasts = pulsed.match-lasts c w
 
   -- so a flag that is cleared inside it stays clear until it has ended
   pub cleared-stays :
@@ -295,11 +296,11 @@ module _ (c : Clock) (w : State c) where
   pub match-entered :
       (kind byte count : ℕ) → let d = stepOf c kind byte count .state in
       (n : ℕ) → ((m : ℕ) → m < n → Matching (stepOf d 5 0 m .state)) → Silent d (stepOf d 5 0 n .state) n
-  match-entered kind byte count = ring.match-lasts (stepOf c kind byte count .state) (step-state c w kind byte count)
+  match-entered kind byte count = pulsed.match-lasts (stepOf c kind byte count .state) (step-state c w kind byte count)
 
   -- an empty 0Eh never rings
   pub empty-silent : registerOf c 0x0E ≡ 0 → (n : ℕ) → Silent c (stepOf c 5 0 n .state) n
-  empty-silent = ring.empty-silent c w
+  empty-silent = pulsed.empty-silent c w
 
 module _ (r : ℕ → ℕ) (i : Inner) where
   -- the registers as they stand decide, and INTAF is not asked

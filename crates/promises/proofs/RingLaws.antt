@@ -1,10 +1,9 @@
--- An alarm rings where its match begins: what a pulse makes of INTAF and the pin pulse, and which alarms ring when. Assumes nothing.
+-- When a match begins, by the registers: what the test of a pulse says, and which alarms begin when. Assumes nothing.
 use mathlib.Core.Path.{_≡_, refl, sym, ap, ap₂, subst, _∙_}
 use mathlib.Core.Logic.{_⊎_, inl, inr, _↔_}
-use mathlib.Core.Bool.{Bool, true, false, cond, _&&_, _||_, not, Bool·beq, true≢false, false≢true}
+use mathlib.Core.Bool.{Bool, true, false, cond, _&&_, not, Bool·beq, true≢false}
 use mathlib.Core.Option.{some}
-use Prim.Native.Nat.{ℕ, zero, suc, _+_, _-_, _*_, _/_, _%_, _≤_, _<_, _^_}
-use native.Mathlib.Decide.{ℕ-discrete}
+use Prim.Native.Nat.{ℕ, zero, suc, _+_, _*_, _/_, _%_, _<_, _^_}
 use native.Mathlib.Omega.{arith}
 use lib.Dec.{eqb, ltb}
 use borrow.Author.Tests.{eqb-true, eq-eqb, ne-eqb, lt-ltb}
@@ -22,7 +21,6 @@ use Rattle.dates.proofs.DateLaws.{LegalDate, legal-date}
 use Rattle.calendar.specs.declared.time.Time.{Time}
 use Rattle.calendar.specs.Advance.{clockOf, dateOf, advanceOf}
 use Rattle.calendar.specs.Numbers.{sinceOf, numberOf}
-use Rattle.calendar.specs.Repeat.{times}
 use Rattle.calendar.proofs.MomentLaws.{number-moment, number-since}
 use Rattle.alarm.specs.declared.alarm.Alarm.{Alarm}
 use Rattle.alarm.specs.Matching.{off, matchesOf}
@@ -30,42 +28,22 @@ use Rattle.alarm.specs.Alarm as alarm
 use Rattle.alarm.specs.Alarm.{meetsOf, ringsOf}
 use Rattle.alarm.proofs.RingLaws as laws
 use Rattle.alarm.proofs.NumberLaws as numbers
-use Rattle.sd2068.specs.declared.clock.Clock.{Clock}
-use Rattle.sd2068.specs.Pulse.{pulseOf, pulsesOf}
-use Rattle.sd2068.specs.Reading.{controlAtOf, registerOf}
-use Rattle.sd2068.specs.Step.{Told, quietOf, refusalOf, eventOf, stepOf}
-use Rattle.sd2068.proofs.WellLaws.{parts, step-taken}
-use Rattle.promises.specs.Registers.{bit, Inner, innerOf, State, sevenFrom}
+use Rattle.promises.specs.Registers.{bit, Inner, sevenFrom}
 use Rattle.promises.specs.Pulsed.{secondLength, matchesAt, ends, timeAfter, rings}
-use Rattle.promises.specs.Ring.{timeBefore, timeNext, Judged, Matched, Begins, Matching, Silent, Evening}
-use Rattle.promises.proofs.RegisterLaws.{intaf}
-use Rattle.promises.proofs.PulseLaws.{matches-same, rung, rings-same}
+use Rattle.promises.specs.Ring.{timeBefore, timeNext, Judged, Matched, Begins, Evening}
+use Rattle.promises.proofs.PulseLaws.{matches-same}
 
 not-true : (b : Bool) → not b ≡ true → b ≡ false
 not-true true e = sym e
 not-true false e = refl
 
--- a flag that was set or is set now, by a test that says P
-module _ (P : Type 0) where
-  flag-set : (x y : Bool) → (x ≡ true → P) → (P → x ≡ true) → (x || y ≡ true) ↔ ((y ≡ true) ⊎ P)
-  flag-set true y f g = (λ e. inr (f refl), λ s. refl)
-  flag-set false y f g = (λ e. inl e, before)
-    where
-      before : (y ≡ true) ⊎ P → y ≡ true
-      before (inl e) = e
-      before (inr p) = absurd (false≢true (g p))
-
-  whole-pulse : (x : Bool) (p : ℕ) → p ≤ 8192 → (x ≡ true → P) → (P → x ≡ true) → (cond x 8192 (p - 1) ≡ 8192) ↔ P
-  whole-pulse true p h f g = (λ e. f refl, λ q. refl)
-  whole-pulse false p h f g = (λ e. absurd (omega arith), λ q. absurd (false≢true (g q)))
-
 -- the alarm that registers r hold
-abbrev alarmAt : (ℕ → ℕ) → Alarm
+abbrev pub alarmAt : (ℕ → ℕ) → Alarm
 alarmAt r = record { at = sevenFrom 0x07 r; enable = r 0x0E; flag = false; pulse = 0 }
 
 module _ (r : ℕ → ℕ) (i : Inner) where
   -- what the test of a pulse says, condition by condition
-  rings-begins : rings r i ≡ true → Begins r i
+  pub rings-begins : rings r i ≡ true → Begins r i
   unfolding rings timeAfter
   rings-begins e =
       let x = ends r i in
@@ -84,7 +62,7 @@ module _ (r : ℕ → ℕ) (i : Inner) where
         before = not-true (matchesAt r (timeBefore r)) (and-right m b both);
       }
 
-  begins-rings : Begins r i → rings r i ≡ true
+  pub begins-rings : Begins r i → rings r i ≡ true
   unfolding rings timeAfter
   begins-rings b = simp (b .ended, b .intae, ne-eqb (r 0x0E) 0 (b .enabled), b .after, b .before)
 
@@ -160,7 +138,7 @@ twelve-codes n b =
 
 module _ (r : ℕ → ℕ) (i : Inner) where
   -- inside a match nothing begins
-  lasts-unrung : matchesAt r (timeBefore r) ≡ true → rings r i ≡ false
+  pub lasts-unrung : matchesAt r (timeBefore r) ≡ true → rings r i ≡ false
   lasts-unrung e = unheld (rings r i) (λ b. true≢false (sym e ∙ rings-begins r i b .before))
 
   -- an alarm that compares the seconds
@@ -275,92 +253,3 @@ module _ (r : ℕ → ℕ) (i : Inner) where
           after = sym (matches-alike (timeNext q)) ∙ ap (λ (t : Time). matchesAt r (advanceOf t)) (sym (seven-alike 0x00 (omega arith))) ∙ b .after;
           before = sym (matches-alike (timeBefore q)) ∙ ap (matchesAt r) (sym (seven-alike 0x00 (omega arith))) ∙ b .before;
         }
-
--- what one pulse makes of INTAF and of the pin pulse
-module _ (c : Clock) where
-  intaf-after : bit 5 (registerOf (pulseOf c) 0x0F) ≡ (rings (registerOf c) (innerOf c) || bit 5 (registerOf c 0x0F))
-  unfolding pulseOf alarm.rungOf
-  intaf-after = intaf (pulseOf c) ∙ (λ x. rings-same c x || sym (intaf c) x)
-
-  pulse-after : innerOf (pulseOf c) .alarmPulse ≡ cond (rings (registerOf c) (innerOf c)) 8192 (innerOf c .alarmPulse - 1)
-  unfolding pulseOf alarm.rungOf
-  pulse-after = ap (λ (b : Bool). cond b 8192 (c .alarm .pulse - 1)) (rings-same c)
-
-  intaf-by : (bit 5 (registerOf (pulseOf c) 0x0F) ≡ true) ↔ ((bit 5 (registerOf c 0x0F) ≡ true) ⊎ Begins (registerOf c) (innerOf c))
-  intaf-by =
-      let r = registerOf c in
-      subst (λ (b : Bool). (b ≡ true) ↔ ((bit 5 (r 0x0F) ≡ true) ⊎ Begins r (innerOf c))) (sym intaf-after)
-      (flag-set (Begins r (innerOf c)) (rings r (innerOf c)) (bit 5 (r 0x0F)) (rings-begins r (innerOf c)) (begins-rings r (innerOf c)))
-
-  pulse-by : innerOf c .alarmPulse ≤ 8192 → (innerOf (pulseOf c) .alarmPulse ≡ 8192) ↔ Begins (registerOf c) (innerOf c)
-  pulse-by h =
-      let r = registerOf c in
-      subst (λ (n : ℕ). (n ≡ 8192) ↔ Begins r (innerOf c)) (sym pulse-after)
-      (whole-pulse (Begins r (innerOf c)) (rings r (innerOf c)) (innerOf c .alarmPulse) h (rings-begins r (innerOf c)) (begins-rings r (innerOf c)))
-
-  -- inside a match it makes nothing of them
-  one-silent : Matching c → Silent c (pulseOf c) 1
-  one-silent e =
-      let off = lasts-unrung (registerOf c) (innerOf c) e in
-      record {
-        intaf = intaf-after ∙ ap (λ (b : Bool). b || bit 5 (registerOf c 0x0F)) off;
-        pulse = pulse-after ∙ ap (λ (b : Bool). cond b 8192 (innerOf c .alarmPulse - 1)) off;
-      }
-
--- so while the match lasts, pulse after pulse
-less-more : (p q s n : ℕ) → q ≡ p - n → s ≡ q - 1 → s ≡ p - suc n
-less-more p q s n e f = omega arith
-
-module _ (c : Clock) where
-  silent-pulses : (n : ℕ) → ((m : ℕ) → m < n → Matching (pulsesOf c m)) → Silent c (pulsesOf c n) n
-  unfolding times
-  silent-pulses zero lasts = record { intaf = refl; pulse = omega arith }
-  silent-pulses (suc n) lasts =
-      let before = silent-pulses n (λ m h. lasts m (omega arith)) in
-      let now = one-silent (pulsesOf c n) (lasts n (omega arith)) in
-      record {
-        intaf = now .intaf ∙ before .intaf;
-        pulse = less-more (c .alarm .pulse) (pulsesOf c n .alarm .pulse) (pulsesOf c (suc n) .alarm .pulse) n (before .pulse) (now .pulse);
-      }
-
--- an empty 0Eh stays so, and matches every time
-enable-kept : (c : Clock) (n : ℕ) → registerOf (pulsesOf c n) 0x0E ≡ registerOf c 0x0E
-unfolding times registerOf controlAtOf pulseOf alarm.rungOf
-enable-kept c zero = refl
-enable-kept c (suc n) = enable-kept c n
-
-empty-matching : (c : Clock) → registerOf c 0x0E ≡ 0 → Matching c
-empty-matching c e =
-    let r = registerOf c in
-    sym (matches-same r (timeBefore r)) ∙ laws.empty-meets (alarmAt r) (timeBefore r) e
-
--- by steps: one of n pulses leaves what n pulses leave, and one of none is refused and leaves the state
-module _ (c : Clock) (w : State c) where
-  stepped-pulses : (n : ℕ) → stepOf c 5 0 n .state ≡ pulsesOf c n
-  unfolding stepOf refusalOf eventOf times
-  stepped-pulses zero = ap (λ (b : Bool). cond (eqb (cond b 3 1) 0) (eventOf c 5 0 0) (quietOf c) .clock) (w .well)
-  stepped-pulses (suc n) = ap (λ (t : Told). t .state) (step-taken c (parts c (w .well)) 5 0 (suc n) (simp (ne-eqb (suc n) 0 (λ e. omega arith))))
-
-  one-pulse : stepOf c 5 0 1 .state ≡ pulseOf c
-  unfolding times
-  one-pulse = stepped-pulses 1
-
-  abbrev Ring : Type 0
-  Ring = Begins (registerOf c) (innerOf c)
-
-  pub intaf-set : (bit 5 (registerOf (stepOf c 5 0 1 .state) 0x0F) ≡ true) ↔ ((bit 5 (registerOf c 0x0F) ≡ true) ⊎ Ring)
-  intaf-set = subst (λ (d : Clock). (bit 5 (registerOf d 0x0F) ≡ true) ↔ ((bit 5 (registerOf c 0x0F) ≡ true) ⊎ Ring)) (sym one-pulse) (intaf-by c)
-
-  pub pulse-begun : (innerOf (stepOf c 5 0 1 .state) .alarmPulse ≡ 8192) ↔ Ring
-  pulse-begun =
-      subst (λ (d : Clock). (innerOf d .alarmPulse ≡ 8192) ↔ Ring) (sym one-pulse) (pulse-by c (parts c (w .well) .alarm .pulse))
-
-  pub match-lasts : (n : ℕ) → ((m : ℕ) → m < n → Matching (stepOf c 5 0 m .state)) → Silent c (stepOf c 5 0 n .state) n
-  match-lasts n lasts =
-      subst (λ (d : Clock). Silent c d n) (sym (stepped-pulses n))
-      (silent-pulses c n (λ m h. subst Matching (stepped-pulses m) (lasts m h)))
-
-  pub empty-silent : registerOf c 0x0E ≡ 0 → (n : ℕ) → Silent c (stepOf c 5 0 n .state) n
-  empty-silent e n =
-      subst (λ (d : Clock). Silent c d n) (sym (stepped-pulses n))
-      (silent-pulses c n (λ m h. empty-matching (pulsesOf c m) (enable-kept c m ∙ e)))
