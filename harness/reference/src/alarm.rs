@@ -1,4 +1,5 @@
-//! The alarm, judged only when the time has just advanced.
+//! The alarm, judged only when the time has just advanced: it rings where a match
+//! begins.
 
 use crate::registers::{
     ALARM_DAY, ALARM_ENABLE, ALARM_HOURS, ALARM_MINUTES, ALARM_MONTH, ALARM_SECONDS,
@@ -8,15 +9,65 @@ use crate::registers::{
 use crate::{Chip, Reading};
 
 impl Chip {
-    /// Rings if the alarm is on and meets the new time.
-    pub(crate) fn judge_alarm(&mut self) {
+    /// Rings if the alarm is on and its match begins; `before` is the chip just
+    /// before the time advanced.
+    pub(crate) fn judge_alarm(&mut self, before: &Chip) {
         let on = self.regs[CTR2] & INTAE != 0 || self.reads(Reading::AlarmWhileOff);
-        let any = self.regs[ALARM_ENABLE] != 0 || self.reads(Reading::AlarmByNothing);
+        let any = self.regs[ALARM_ENABLE] != 0;
         let judged = !self.reads(Reading::AlarmNeedsLegalTime) || self.time_is_legal();
-        if on && any && judged && self.alarm_meets_time() {
+        if on && any && judged {
+            self.ring(before);
+        }
+    }
+
+    /// Flag and pin pulse come together, where a match begins.
+    fn ring(&mut self, before: &Chip) {
+        let (met, meets) = (self.alarm_met(before), self.alarm_meets_now(before));
+        let begins = meets && !met;
+        let (flag, pulse) = match self.manner.reading {
+            Reading::AlarmEverySecond => (meets, meets),
+            Reading::AlarmPulseEveryMatch => (begins, meets),
+            Reading::AlarmFlagEveryMatch => (meets, begins),
+            Reading::AlarmAtMatchEnd => (met && !meets, met && !meets),
+            _ => (begins, begins),
+        };
+        if pulse {
             self.alarm_pulse = self.new_pulse(INTAF, self.alarm_pulse);
+        }
+        if flag {
             self.regs[CTR1] |= INTAF;
         }
+    }
+
+    /// Do the enabled fields match after the advance?
+    fn alarm_meets_now(&self, before: &Chip) -> bool {
+        match self.manner.reading {
+            Reading::AlarmBeforeAdvance => before.alarm_meets_time(),
+            _ => self.alarm_meets_time(),
+        }
+    }
+
+    /// Did they match just before it, with the alarm as it stands now?
+    fn alarm_met(&self, before: &Chip) -> bool {
+        let met = before.alarm_meets_time();
+        let remembered = self.manner.memory != 0;
+        match self.manner.reading {
+            Reading::AlarmEdgeSaved | Reading::AlarmBeforeAdvance => remembered,
+            Reading::AlarmEdgeByFlag => self.regs[CTR1] & INTAF != 0,
+            Reading::AlarmEdgeByEnable => met && remembered,
+            Reading::AlarmAfterTimeWrite
+            | Reading::AlarmAfterFieldWrite
+            | Reading::AlarmAfterEnableWrite => met && !remembered,
+            Reading::AlarmAtFieldChange => !self.enabled_field_changed(before),
+            Reading::AlarmIllegalNoMatch => met && before.time_is_legal(),
+            _ => met,
+        }
+    }
+
+    /// Each bit of 0Eh has the number of its time register.
+    fn enabled_field_changed(&self, before: &Chip) -> bool {
+        let changed = |at: usize| self.regs[at] != before.regs[at];
+        (SECONDS..=YEAR).any(|at| self.regs[ALARM_ENABLE] >> at & 1 != 0 && changed(at))
     }
 
     pub(crate) fn alarm_meets_time(&self) -> bool {

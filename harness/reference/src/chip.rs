@@ -147,18 +147,13 @@ impl Chip {
         }
     }
 
-    /// The time advances, and the alarm is judged by the new one.
+    /// The time advances, and the alarm is judged by it and by the time just
+    /// before.
     fn end_second(&mut self) {
-        if self.reads(Reading::AlarmBeforeAdvance) {
-            self.judge_alarm();
-            return self.advance_time();
-        }
-        let met_before = self.reads(Reading::AlarmAtFirstMatch) && self.alarm_meets_time();
+        let before = self.clone();
         self.advance_time();
-        if !met_before {
-            self.judge_alarm();
-        }
-        self.stray_after_second();
+        self.judge_alarm(&before);
+        self.stray_after_second(&before);
     }
 
     fn lose_power(&mut self) -> Answer {

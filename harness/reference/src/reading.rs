@@ -107,16 +107,36 @@ readings! {
 
     // The alarm
 
-    /// The alarm is judged at writes, too.
+    /// A match that begins with a write rings, too.
     AlarmOnWrite,
-    /// The alarm is judged before the time advances.
+    /// The alarm is judged before the time advances, and so rings a second late.
     AlarmBeforeAdvance,
-    /// Only the first of several matching seconds rings.
-    AlarmAtFirstMatch,
+    /// Every second of a match rings.
+    AlarmEverySecond,
+    /// A match rings where it ends.
+    AlarmAtMatchEnd,
+    /// Only the flag waits for a match to begin: each second of it pulses the pin.
+    AlarmPulseEveryMatch,
+    /// Only the pin pulse waits for a match to begin: each second of it flags.
+    AlarmFlagEveryMatch,
+    /// The match before is what the last advance found.
+    AlarmEdgeSaved,
+    /// A match rings in each second that finds INTAF 0.
+    AlarmEdgeByFlag,
+    /// There was no match before if INTAE was 0 at the last advance.
+    AlarmEdgeByEnable,
+    /// A time register stored inside a match lets it ring.
+    AlarmAfterTimeWrite,
+    /// An alarm register stored inside a match lets it ring.
+    AlarmAfterFieldWrite,
+    /// 0Eh stored inside a match lets it ring.
+    AlarmAfterEnableWrite,
+    /// A match rings again if an enabled field changes within it.
+    AlarmAtFieldChange,
+    /// Illegal times are no match before.
+    AlarmIllegalNoMatch,
     /// INTAE only lets the alarm through to the pin.
     AlarmWhileOff,
-    /// With no field enabled every second matches.
-    AlarmByNothing,
     /// Illegal times ring no alarm.
     AlarmNeedsLegalTime,
     /// Day and weekday must both match if both are enabled.

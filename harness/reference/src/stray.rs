@@ -3,8 +3,8 @@
 
 use crate::bus::{Phase, Stage};
 use crate::registers::{
-    ALARM_ENABLE, COUNTDOWN, CTR1, CTR2, CTR3, INTAE, INTAF, INTDE, INTDF, MINUTES, RAM, RTCF,
-    SECONDS, TRIM, USED, YEAR,
+    ALARM_ENABLE, ALARM_SECONDS, ALARM_YEAR, COUNTDOWN, CTR1, CTR2, CTR3, INTAE, INTAF, INTDE,
+    INTDF, MINUTES, RAM, RTCF, SECONDS, TRIM, USED, YEAR,
 };
 use crate::{Chip, Reading};
 
@@ -30,6 +30,7 @@ impl Chip {
             CTR1 => self.stray_after_flags(before, byte),
             CTR2 => self.stray_after_controls(before),
             ..=YEAR => self.stray_after_time(before, at),
+            ALARM_SECONDS..=ALARM_YEAR => self.stray_after_alarm(),
             ALARM_ENABLE => self.stray_after_enable(before),
             CTR3 => self.stray_after_source(before),
             COUNTDOWN => self.stray_after_count(before),
@@ -40,7 +41,7 @@ impl Chip {
                 self.regs[at] = self.regs[at] & USED[at] | byte & !USED[at];
             }
             Reading::PowerFlagClearsAtWrite => self.regs[CTR1] &= !RTCF,
-            Reading::AlarmOnWrite => self.judge_alarm(),
+            Reading::AlarmOnWrite => self.judge_alarm(before),
             _ => {}
         }
     }
@@ -95,7 +96,14 @@ impl Chip {
             (Reading::SecondsClearDivider, SECONDS) => self.divider = 0,
             (Reading::SecondsClearPrescaler, SECONDS) => self.prescaler = 0,
             (Reading::TimeWriteLatched, _) => self.latch[at] = self.regs[at],
+            (Reading::AlarmAfterTimeWrite, _) => self.manner.memory = 1,
             _ => {}
+        }
+    }
+
+    fn stray_after_alarm(&mut self) {
+        if self.reads(Reading::AlarmAfterFieldWrite) {
+            self.manner.memory = 1;
         }
     }
 
@@ -104,6 +112,7 @@ impl Chip {
             Reading::EnableKeepsFlag => self.regs[CTR1] = before.regs[CTR1],
             Reading::EnableClearsBothFlags => self.regs[CTR1] &= !INTDF,
             Reading::EnableCutsPulse => self.alarm_pulse = 0,
+            Reading::AlarmAfterEnableWrite => self.manner.memory = 1,
             _ => {}
         }
     }
@@ -176,12 +185,19 @@ impl Chip {
         self.manner.memory = self.regs[TRIM].into();
     }
 
-    /// After the time has advanced.
-    pub(crate) fn stray_after_second(&mut self) {
+    /// After the time has advanced; `before` is the chip as it was.
+    pub(crate) fn stray_after_second(&mut self, before: &Chip) {
         let seconds_count = self.regs[CTR2] & INTDE != 0 && self.regs[CTR3] & 0x30 == 0x20;
         match self.manner.reading {
             Reading::LengthFixedAtBegin => self.remember_trim(),
             Reading::SecondsSourceIsClock if seconds_count => self.tick(),
+            // What the next advance is told of this one.
+            Reading::AlarmEdgeSaved => self.manner.memory = self.alarm_meets_time().into(),
+            Reading::AlarmBeforeAdvance => self.manner.memory = before.alarm_meets_time().into(),
+            Reading::AlarmEdgeByEnable => self.manner.memory = (self.regs[CTR2] & INTAE).into(),
+            Reading::AlarmAfterTimeWrite
+            | Reading::AlarmAfterFieldWrite
+            | Reading::AlarmAfterEnableWrite => self.manner.memory = 0,
             _ => {}
         }
     }

@@ -14,5 +14,6 @@ mod pin;
 mod power;
 mod random;
 mod reading;
+mod rings;
 mod second;
 mod state;
