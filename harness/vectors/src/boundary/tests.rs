@@ -221,14 +221,14 @@ fn the_contrasts_differ() {
     assert_eq!(pins, ['H', 'L', 'L', 'L', 'L', 'H', 'X', 'L']);
 }
 
-/// 7,800 events of scripts, each with one by chance; then on eight states every
+/// 7,996 events of scripts, each with one by chance; then on eight states every
 /// kind with four fields, and seven kinds with ten bytes and eight counts.
 #[test]
 fn states_are_counted() {
     let cases = states::cases();
     let on_contrasts = 8 * (256 * 4 + 7 * 10 * 8);
-    assert_eq!(cases.len(), 2 * 7_800 + on_contrasts + 20_000);
-    let on_contrasts = &cases[2 * 7_800..][..on_contrasts];
+    assert_eq!(cases.len(), 2 * 7_996 + on_contrasts + 20_000);
+    let on_contrasts = &cases[2 * 7_996..][..on_contrasts];
     for bytes in contrasts() {
         let here = on_contrasts.iter().filter(|case| case.bytes == bytes);
         let seen: BTreeSet<(u8, u8)> = here.map(|case| (case.event.kind, case.address)).collect();
@@ -328,7 +328,7 @@ fn the_stream_ends_in_its_counts() {
 #[test]
 fn long_pulses_are_tried_at_their_end() {
     let cases = states::cases();
-    let on_scripts = cases[..2 * 7_800].iter().step_by(2);
+    let on_scripts = cases[..2 * 7_996].iter().step_by(2);
     let longest = on_scripts.filter(|case| case.event.byte == 0 && case.event.kind == 5);
     assert_eq!(longest.map(|case| case.event.count).max(), Some(2));
     let second = Script::at([0x59, 0x59, 0xA3, 0x06, 0x31, 0x12, 0x99]).pulses(32_768);

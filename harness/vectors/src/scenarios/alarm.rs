@@ -17,7 +17,6 @@ pub fn scripts() -> Vec<Script> {
         switched_off().named("alarm: switched off"),
         enable_clears_the_flag().named("alarm: enable clears the flag"),
         pulse_mode().named("alarm: pulse mode"),
-        each_matching_second().named("alarm: each matching second"),
     ]
 }
 
@@ -42,27 +41,30 @@ fn seconds_only() -> Script {
 
 /// The day decides where both are enabled; a weekday alone goes by its bit,
 /// and the eighth weekday has none. Nine in the evening is not nine in the
-/// morning, but the mode does not count.
+/// morning, but the mode does not count. Each second begins a match of its own.
 fn day_weekday_and_hour() -> Script {
     Script::at(TIME)
         .unlock_with(&[LEVEL])
-        .storing(0x0A, &[0x00, 0x17, 0x00, 0x00, 0x18])
+        .storing(0x07, &[0x31, 0x00, 0x00, 0x00, 0x17, 0x00, 0x00, 0x19])
         .pulses(SECOND)
-        .storing(0x0A, &[0x08, 0x18, 0x00, 0x00, 0x18])
+        .storing(0x07, &[0x32, 0x00, 0x00, 0x08, 0x18, 0x00, 0x00, 0x19])
         .pulses(SECOND)
-        .storing(0x0E, &[0x08])
+        .storing(0x07, &[0x33])
+        .storing(0x0E, &[0x09])
         .pulses(SECOND)
-        .storing(0x0A, &[0xF7, 0x17, 0x00, 0x00, 0x08])
+        .storing(0x07, &[0x34, 0x00, 0x00, 0xF7, 0x17, 0x00, 0x00, 0x09])
         .pulses(SECOND)
         .storing(0x02, &[0x29, 0x07])
-        .storing(0x09, &[0x09, 0xFF])
+        .storing(0x07, &[0x35, 0x00, 0x09, 0xFF])
         .pulses(SECOND)
-        .storing(0x0E, &[0x04])
+        .storing(0x07, &[0x36])
+        .storing(0x0E, &[0x05])
         .pulses(SECOND)
-        .storing(0x09, &[0xE9])
+        .storing(0x07, &[0x37, 0x00, 0xE9])
         .pulses(SECOND)
         .storing(0x02, &[0xA9])
-        .storing(0x0E, &[0x04])
+        .storing(0x07, &[0x38])
+        .storing(0x0E, &[0x05])
         .pulses(SECOND)
 }
 
@@ -107,19 +109,5 @@ fn pulse_mode() -> Script {
         .pulses(4_000)
         .storing(0x10, &[PULSE])
         .pulses(4_191)
-        .pulses(1)
-}
-
-/// With only the minute compared each second of it rings anew.
-fn each_matching_second() -> Script {
-    Script::at(TIME)
-        .unlock_with(&[PULSE])
-        .storing(0x08, &[0x59])
-        .storing(0x0E, &[0x02])
-        .pulses(SECOND)
-        .pulses(8_192)
-        .store(0x0F, &[CLEAR_FLAGS])
-        .pulses(SECOND - 8_192)
-        .pulses(8_191)
         .pulses(1)
 }

@@ -9,8 +9,8 @@ use crate::file::placed::Placed;
 use crate::script::Script;
 use reference::AGE_LIMIT;
 
-/// Two seconds before the century ends.
-const CENTURY_END: [u8; 7] = [0x58, 0x59, 0xA3, 0x06, 0x31, 0x12, 0x99];
+/// Four seconds before the century ends.
+const CENTURY_END: [u8; 7] = [0x56, 0x59, 0xA3, 0x06, 0x31, 0x12, 0x99];
 
 /// The 30th of a February, 33h in 12-hour mode, on weekday 7.
 const NO_TIME: [u8; 7] = [0x58, 0x59, 0x33, 0x07, 0x30, 0x02, 0x99];
@@ -66,7 +66,7 @@ fn unlocked_at_last(script: Script) -> Script {
         .stop()
 }
 
-/// A change every four pulses; then two in each second, over the century's end.
+/// A change every four pulses; then two in each second.
 fn frequencies(script: Script) -> Script {
     script
         .store(0x11, &[0x02])
@@ -85,13 +85,14 @@ fn zeros(script: Script) -> Script {
         .pulses(40_000)
 }
 
-/// Every weekday rings in each second: as a level, then as pulses.
+/// The year 00 rings as it begins, over the century's end; it lasts, and no other
+/// second of it does. As a pulse, then as a level.
 fn rings(script: Script) -> Script {
     let on = BY_ALARM | ALARM_ON;
     script
-        .store(0x0A, &[0x7F, 0x00, 0x00, 0x00, 0x08, CLEAR_FLAGS, on])
+        .store(0x0E, &[0x40, CLEAR_FLAGS, on | PULSE_MODE])
         .pulses(LONGEST)
-        .store(0x10, &[on | PULSE_MODE])
+        .store(0x10, &[on])
         .pulses(LONGEST)
 }
 
@@ -105,14 +106,14 @@ fn flags_cleared(script: Script) -> Script {
         .stop()
 }
 
-/// Second and tick begin together, and a transfer in the middle of them. 0Fh is
-/// not read again.
+/// Second and tick begin together, and a transfer in the middle of them. The
+/// second 00h rings, and 0Fh is not read again.
 fn all_in_one_pulse(script: Script) -> Script {
     let half = AGE_LIMIT.into();
     let (on, seconds) = (BY_ALARM | ALARM_ON | COUNTDOWN_ON, AUTO_RESET | 0x20);
     script
-        .storing(0x10, &[on, seconds, 0x00, 0x01])
-        .storing(0x00, &[0x30])
+        .storing(0x0E, &[0x01, CLEAR_FLAGS, on, seconds, 0x00, 0x01])
+        .storing(0x00, &[0x59])
         .stop()
         .pulses(half)
         .start()

@@ -12,6 +12,7 @@ mod power;
 #[cfg(test)]
 mod printed;
 mod refused;
+mod rings;
 mod sheets;
 mod states;
 mod time;
@@ -73,6 +74,7 @@ pub fn stored_scripts() -> Vec<Item> {
     ];
     let scripts = scripts.concat().into_iter().map(Item::from);
     scripts
+        .chain(rings::items())
         .chain(sheets::items())
         .chain(states::items())
         .collect()

@@ -12,12 +12,13 @@ fn set(from_ctr2: &[u8]) -> Script {
     powered().unlock_with(from_ctr2)
 }
 
-/// Every weekday rings in each second, with this byte at 10h.
+/// The last second of a minute; the next minute rings, with this byte at 10h.
 fn ringing(ctr2: u8) -> Script {
     powered()
         .unlock()
-        .storing(0x0A, &[0x7F])
-        .storing(0x0E, &[0x08, 0x84, ctr2])
+        .storing(0x08, &[0x20])
+        .storing(0x0E, &[0x02, 0x84, ctr2])
+        .storing(0x00, &[0x59])
         .stop()
 }
 
@@ -78,16 +79,29 @@ fn a_second_of_no_time_has_no_number() {
     assert_eq!(moments(&legal.pulses(32_768)), expected);
 }
 
-/// In each second, the flag set or not.
+/// 40 seconds after TIME, and once more with the flag set.
 #[test]
 fn an_alarm_rings_where_it_is_on() {
-    let rings = ringing(0x82).pulses(32_768).pulses(32_768);
-    let both = "pulse 32768 second 219953961, pulse 32768 alarm, counts 1 1 0 0, \
-                pulse 32768 second 219953962, pulse 32768 alarm, counts 1 1 0 0";
-    assert_eq!(moments(&rings), both);
-    let off = ringing(0x80).pulses(32_768);
-    let expected = "pulse 32768 second 219953961, counts 1 0 0 0";
-    assert_eq!(moments(&off), expected);
+    let again = |script: Script| {
+        script
+            .pulses(32_768)
+            .store(0x00, &[0x59, 0x19])
+            .pulses(32_768)
+    };
+    let one = "pulse 32768 second 219954000, pulse 32768 alarm, counts 1 1 0 0";
+    assert_eq!(moments(&again(ringing(0x82))), format!("{one}, {one}"));
+    let off = "pulse 32768 second 219954000, counts 1 0 0 0";
+    assert_eq!(moments(&again(ringing(0x80))), format!("{off}, {off}"));
+}
+
+/// The minute has begun; its next second matches as well, the flag set or not.
+#[test]
+fn a_match_that_lasts_has_no_second_alarm() {
+    let told = "pulse 32768 second 219954000, pulse 32768 alarm, counts 1 1 0 0, \
+                pulse 32768 second 219954001, counts 1 0 0 0";
+    let rung = || ringing(0x82).pulses(32_768);
+    assert_eq!(moments(&rung().pulses(32_768)), told);
+    assert_eq!(moments(&rung().store(0x0F, &[0x84]).pulses(32_768)), told);
 }
 
 /// As a level the pin stays low; as a pulse it is high again 8,192 pulses on.
@@ -108,8 +122,8 @@ fn the_pin_changes_with_its_source() {
 fn one_pulse_can_have_them_all() {
     let script = powered()
         .unlock()
-        .storing(0x0A, &[0x7F, 0x00, 0x00, 0x00, 0x08, 0x84])
-        .write(&[0x96, 0x20, 0x00, 0x01])
+        .storing(0x07, &[0x31])
+        .storing(0x0E, &[0x01, 0x84, 0x96, 0x20, 0x00, 0x01])
         .storing(0x00, &[0x30])
         .stop()
         .pulses(16_384)

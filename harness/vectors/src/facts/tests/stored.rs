@@ -59,6 +59,26 @@ fn times_with_and_without_a_number_are_in_it() {
     assert_eq!(no_time.expect("the id of no time")[11], "-");
 }
 
+/// The numbers of the seconds that end, and whether the alarm rings with them.
+fn seconds(text: &str) -> Vec<(&str, bool)> {
+    let pulses = lines(text, &["pulse"]);
+    let alarm_behind = |at: usize| pulses.get(at + 1).is_some_and(|words| words[2] == "alarm");
+    let seconds = pulses.iter().enumerate();
+    seconds
+        .filter(|(_, words)| words[2] == "second")
+        .map(|(at, words)| (words[3], alarm_behind(at)))
+        .collect()
+}
+
+/// The year 00 rings with the century's first second, and the next three are in it
+/// as well.
+#[test]
+fn a_match_that_lasts_is_in_it() {
+    let text = text(&script());
+    let year = [("0", true), ("1", false), ("2", false), ("3", false)];
+    assert!(seconds(&text).windows(4).any(|four| four == year));
+}
+
 #[test]
 fn more_happens_than_is_shown() {
     let text = text(&script());

@@ -19,7 +19,8 @@ pub fn scripts() -> Vec<Script> {
         weekdays_at_half_past_eight().named("003, 001: alarm example 2, Mon Tue Fri 8:30:00"),
         first_of_each_month().named("003, 001: alarm example 3, the 1st at 8:30:00"),
         opening_of_the_games().named("003, 001: alarm example 4, 2008-08-08 20h"),
-        next_second_of_the_games().named("000 differs, 003 and 001 say once: 20:00:01 rings too"),
+        games_rung_once().named("003, 000, 001: alarm example 4 rings once"),
+        first_second_of_a_match().named("003, 000, 001: the first second of a match rings"),
         saturday_and_monday().named("003, 000, 001: weekday alarm AW6 and AW1"),
         day_before_weekday().named("003, 000, 001: with day and weekday only the day"),
         ways_to_clear().named("003, 000, 001: ways to clear INTAF"),
@@ -30,7 +31,11 @@ pub fn scripts() -> Vec<Script> {
 
 /// The alarm registers from 07h to 0Eh, and the controls.
 fn alarm(controls: u8, registers: [u8; 8]) -> Script {
-    Script::at(NEW_CENTURY)
+    alarm_at(NEW_CENTURY, controls, registers)
+}
+
+fn alarm_at(time: [u8; 7], controls: u8, registers: [u8; 8]) -> Script {
+    Script::at(time)
         .unlock_with(&[controls])
         .store(0x07, &registers)
 }
@@ -136,34 +141,49 @@ pub const GAMES: [Chance; 6] = [
     ([0x59, 0x59, 0x27, 0x05, 0x08, 0x08, 0x08], false),
 ];
 
-fn games_alarm() -> Script {
-    let registers = [0, 0, 0x20, 0, 0x08, 0x08, 0x08, 0b0111_0100];
-    alarm(SINGLE, registers)
-}
+/// Year, month, day and hour.
+const GAMES_ALARM: [u8; 8] = [0, 0, 0x20, 0, 0x08, 0x08, 0x08, 0b0111_0100];
 
-/// Rings at eight, and is high from the clearing of INTAF on, up to the last
-/// pulse of that second.
-fn rung_and_cleared(script: Script) -> Script {
+/// In the end it rings at eight, and is high from the clearing of INTAF on, up to
+/// the last pulse of that second.
+fn opening_of_the_games() -> Script {
+    let script = around_all(alarm(SINGLE, GAMES_ALARM), &GAMES);
     around(script, &GAMES[0].0)
         .store(0x0F, &[CLEAR_FLAGS])
         .pulses(SECOND - PULSE - 1)
 }
 
-fn opening_of_the_games() -> Script {
-    rung_and_cleared(around_all(games_alarm(), &GAMES))
+/// The whole hour matches. The flag is cleared at 20:00:05 and read a second
+/// later, and again in the last second of the hour; then the hour ends.
+fn games_rung_once() -> Script {
+    alarm_at(GAMES[0].0, SINGLE, GAMES_ALARM)
+        .pulses(SECOND)
+        .pulses(5 * SECOND)
+        .store(0x0F, &[CLEAR_FLAGS])
+        .pulses(SECOND)
+        .fetch(0x0F, 1)
+        .store(0x00, &[0x58, 0x59, 0xA0, 0x05, 0x08, 0x08, 0x08])
+        .pulses(SECOND)
+        .fetch(0x0F, 1)
+        .pulses(SECOND)
 }
 
-/// The whole hour matches, so its next second rings as well.
-fn next_second_of_the_games() -> Script {
-    rung_and_cleared(games_alarm()).pulses(1)
+/// Two seconds of the minute 01h, and after each the flag is cleared.
+fn first_second_of_a_match() -> Script {
+    let registers = [0, 0x01, 0, 0, 0, 0, 0, 0b0000_0010];
+    let script = alarm_at(new_century_but(0x00, 0x59), SINGLE, registers);
+    (0..2).fold(script, |script, _| {
+        script.pulses(SECOND).store(0x0F, &[CLEAR_FLAGS])
+    })
 }
 
-/// Nothing but the weekday is compared, on each day of a week.
+/// Nothing but the weekday is compared, at the midnight into each day of a week.
 fn saturday_and_monday() -> Script {
     let script = alarm(SINGLE, [0, 0, 0, 0b0100_0010, 0, 0, 0, 0b0000_1000]);
     let one = |script: Script, weekday: u8| {
+        let eve = [0x59, 0x59, 0xA3, (weekday + 6) % 7, 0x01, 0x06, 0x09];
         script
-            .storing(0x00, &new_century_but(0x03, weekday))
+            .storing(0x00, &eve)
             .storing(0x0F, &[CLEAR_FLAGS])
             .stop()
             .pulses_shown(SECOND)
@@ -183,14 +203,21 @@ fn day_before_weekday() -> Script {
     around_all(alarm(PERIODIC, registers), &DAY_AND_WEEKDAY)
 }
 
+/// Rings at the second 01h, which the new century reaches next.
+fn second_1() -> Script {
+    alarm(SINGLE, [0x01, 0, 0, 0, 0, 0, 0, 0b0000_0001])
+}
+
 /// By a write of 0Eh, by a 0 written to the flag, and with ARST 1 by a read
-/// of 0Fh and the STOP after it. Each second rings.
+/// of 0Fh and the STOP after it. The time is set back for each ring.
 fn ways_to_clear() -> Script {
-    alarm(SINGLE, [0x00, 0, 0, 0, 0, 0, 0, 0b0000_0010])
+    second_1()
         .pulses(SECOND)
-        .store(0x0E, &[0b0000_0010])
+        .store(0x0E, &[0b0000_0001])
+        .storing(0x00, &[0x00])
         .pulses(SECOND)
         .store(0x0F, &[CLEAR_FLAGS])
+        .storing(0x00, &[0x00])
         .pulses(SECOND)
         .fetch(0x0F, 1)
         .store(0x11, &[AUTO_RESET])
@@ -199,7 +226,7 @@ fn ways_to_clear() -> Script {
 
 /// Up as well as down.
 fn written_one() -> Script {
-    alarm(SINGLE, [0x00, 0, 0, 0, 0, 0, 0, 0b0000_0010])
+    second_1()
         .pulses(SECOND)
         .store(0x0F, &[KEEP_FLAGS])
         .store(0x0F, &[CLEAR_FLAGS])

@@ -11,7 +11,6 @@ pub fn scripts() -> Vec<Script> {
         clock_runs_on().named("000 differs: a transfer does not hold the clock"),
         flag_does_not_end_the_pulse().named("000 differs: INTAF does not end the pulse"),
         enable_ends_the_pulse().named("003, 001: INTAE ends the pulses, 000 differs"),
-        each_second_rings().named("000 differs, 003 and 001 say once: each match rings"),
         power_flag_stays().named("003, 001 differ: no write clears RTCF"),
         countdown_stands_still().named("003, 001 differ: INTDE 0 resets nothing"),
         short_period().named("003, 001 differ: pulses for periods below 250 ms"),
@@ -31,35 +30,30 @@ fn clock_runs_on() -> Script {
         .pulses(1)
 }
 
-/// Rings in each second of the minute 00h.
-fn each_second(controls: u8) -> Script {
+/// Rings at the second 01h, which comes next.
+fn second_1(controls: u8) -> Script {
     Script::at(NEW_CENTURY)
         .unlock_with(&[BY_ALARM | controls])
-        .store(0x0E, &[0x02])
+        .storing(0x07, &[0x01])
+        .store(0x0E, &[0x01])
 }
 
 fn flag_does_not_end_the_pulse() -> Script {
-    each_second(ALARM_ON | PULSE_MODE)
+    second_1(ALARM_ON | PULSE_MODE)
         .pulses(SECOND)
         .store(0x0F, &[CLEAR_FLAGS])
         .pulses(PULSE - 1)
         .pulses(1)
 }
 
-/// The flag is cleared afterwards, and the next second leaves it so.
+/// The flag is cleared afterwards, and the next match leaves it so.
 fn enable_ends_the_pulse() -> Script {
-    each_second(ALARM_ON | PULSE_MODE)
+    second_1(ALARM_ON | PULSE_MODE)
         .pulses(SECOND)
         .store(0x10, &[BY_ALARM | PULSE_MODE])
+        .storing(0x00, &[0x00])
         .store(0x0F, &[CLEAR_FLAGS])
         .pulses(SECOND)
-}
-
-fn each_second_rings() -> Script {
-    let script = each_second(ALARM_ON);
-    (0..3).fold(script, |script, _| {
-        script.pulses(SECOND).store(0x0F, &[CLEAR_FLAGS])
-    })
 }
 
 /// Bytes that are lost, that move the lock, and that are stored.

@@ -20,7 +20,8 @@ const CLEAR_ALARM: u8 = KEEP_FLAGS & !0x20;
 fn by_ints() -> Script {
     let rung = Script::at(NEW_CENTURY)
         .unlock_with(&[BY_NONE | ENABLES, 0x02, 0x00, 0x01])
-        .store(0x0E, &[0b0000_0010])
+        .storing(0x07, &[0x01])
+        .store(0x0E, &[0b0000_0001])
         .pulses(SECOND);
     each_row(each_row(rung).store(0x0F, &[CLEAR_ALARM]))
 }

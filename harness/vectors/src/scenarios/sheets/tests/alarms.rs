@@ -79,14 +79,35 @@ fn eight_in_the_evening_of_one_day() {
     assert!(!flag(printed.last(), INTAF));
 }
 
+/// Low from eight on until the flag is cleared five seconds later, and high from
+/// then on; 0Fh reads its two lock bits and RTCF.
 #[test]
-fn the_second_after_eight_rings_too() {
-    let printed = printed("000 differs, 003 and 001 say once: 20:00:01 rings too");
-    assert_eq!(pulse_pins(&printed), "HLLLHL");
-    assert_eq!(printed.last().regs[..3], [0x01, 0x00, 0xA0]);
-    assert!(flag(printed.last(), INTAF));
+fn a_cleared_flag_stays_clear_up_to_nine() {
+    let printed = printed("003, 000, 001: alarm example 4 rings once");
+    assert_eq!(pulse_pins(&printed), "LLLLHHH");
+    assert_eq!(printed.bytes_read(), [0x85, 0x85]);
+    let [.., cleared, six, _, last, nine] = &printed.states[..] else {
+        panic!("states at the times that were read");
+    };
+    for (chip, at) in [
+        (cleared, [0x05, 0x00, 0xA0]),
+        (six, [0x06, 0x00, 0xA0]),
+        (last, [0x59, 0x59, 0xA0]),
+        (nine, [0x00, 0x00, 0xA1]),
+    ] {
+        assert_eq!(chip.regs[..3], at);
+        assert!(!flag(chip, INTAF));
+    }
 }
 
+#[test]
+fn only_the_first_second_of_a_match_rings() {
+    let printed = printed("003, 000, 001: the first second of a match rings");
+    assert_eq!(pulse_pins(&printed), "LH");
+    assert_eq!(printed.last().regs[..2], [0x01, 0x01]);
+}
+
+/// Before and at each midnight, into Sunday first.
 #[test]
 fn two_weekdays_in_one_byte() {
     let printed = printed("003, 000, 001: weekday alarm AW6 and AW1");

@@ -18,22 +18,16 @@ fn the_pulse_does_not_mind_the_flag() {
     assert!(!flag(printed.last(), INTAF));
 }
 
+/// Low up to the data byte that clears INTAE, and high from then on.
 #[test]
 fn the_pulse_minds_the_enable() {
     let printed = printed("003, 001: INTAE ends the pulses, 000 differs");
     assert_eq!(pulse_pins(&printed), "LH");
-    assert!(printed.pins().ends_with("LLLLHHHHHHHH"));
+    let high = "H".repeat(2 + 4 + 5 + 1);
+    assert!(printed.pins().ends_with(&format!("LLLL{high}")));
     let shown: Vec<bool> = printed.states[2..].iter().map(|s| flag(s, INTAF)).collect();
     assert_eq!(shown, [true, false, false]);
-}
-
-#[test]
-fn each_match_rings() {
-    let printed = printed("000 differs, 003 and 001 say once: each match rings");
-    assert_eq!(pulse_pins(&printed), "LLL");
-    let cleared = &printed.states[2..];
-    assert_eq!(cleared.len(), 3);
-    assert!(cleared.iter().all(|chip| !flag(chip, INTAF)));
+    assert_eq!(printed.last().regs[0x00], 0x01);
 }
 
 #[test]
