@@ -70,7 +70,8 @@ impl Chip {
         (SECONDS..=YEAR).any(|at| self.regs[ALARM_ENABLE] >> at & 1 != 0 && changed(at))
     }
 
-    pub(crate) fn alarm_meets_time(&self) -> bool {
+    /// Do all enabled fields match the time? With none enabled they do.
+    pub fn alarm_meets_time(&self) -> bool {
         let enabled = |bit: u8| self.regs[ALARM_ENABLE] & (1 << bit) != 0;
         let same = |time: usize, alarm: usize| self.regs[time] == self.regs[alarm];
         (!enabled(0) || same(SECONDS, ALARM_SECONDS))

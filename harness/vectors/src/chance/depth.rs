@@ -9,8 +9,8 @@ use crate::file::owed::run_lent;
 use crate::script::{decode_events, Event};
 use crate::watch::{watch, Step};
 use reference::registers::{
-    ALARM_ENABLE, COUNTDOWN, CTR1, CTR2, CTR3, DAY, HOURS, IM, INTAF, INTDF, MONTH, SECONDS, TRIM,
-    YEAR,
+    ALARM_ENABLE, COUNTDOWN, CTR1, CTR2, CTR3, DAY, HOURS, IM, INTAE, INTAF, INTDF, MONTH, SECONDS,
+    TRIM, YEAR,
 };
 use reference::{length_of_second, tick_length, Answer, Chip, Pin, Reading};
 
@@ -26,6 +26,19 @@ impl Step<'_> {
 
     fn rings_with(&self, bit: u8) -> bool {
         self.rings() && self.before.regs[ALARM_ENABLE] >> bit & 1 != 0
+    }
+
+    /// An alarm that is on matches on both sides of a second's end.
+    fn match_lasts(&self) -> bool {
+        let on = self.after.regs[CTR2] & INTAE != 0 && self.after.regs[ALARM_ENABLE] != 0;
+        let both = self.before.alarm_meets_time() && self.after.alarm_meets_time();
+        self.ends_second() && on && both
+    }
+
+    /// A flag goes that has not to come back before the match is over.
+    fn clears_in_match(&self) -> bool {
+        let matches = self.before.regs[ALARM_ENABLE] != 0 && self.before.alarm_meets_time();
+        self.clears(INTAF) && matches
     }
 
     fn ticks(&self, length: u32) -> bool {
@@ -56,7 +69,8 @@ impl Step<'_> {
 /// Something that can happen in a step, by name.
 type Happening = (&'static str, fn(&Step) -> bool);
 
-const STEPS: [Happening; 32] = [
+const ALARMS: [Happening; 13] = [
+    ("alarms", |s| s.rings()),
     ("alarm flags set", |s| s.sets(INTAF)),
     ("alarms with the flag set", |s| s.rings() && !s.sets(INTAF)),
     ("alarms by second", |s| s.rings_with(0)),
@@ -66,6 +80,16 @@ const STEPS: [Happening; 32] = [
     ("alarms by day", |s| s.rings_with(4)),
     ("alarms by month", |s| s.rings_with(5)),
     ("alarms by year", |s| s.rings_with(6)),
+    ("seconds within a match", |s| s.match_lasts()),
+    ("seconds within a match, the flag clear", |s| {
+        s.match_lasts() && s.after.regs[CTR1] & INTAF == 0
+    }),
+    ("alarm flags cleared within a match", |s| {
+        s.clears_in_match()
+    }),
+];
+
+const STEPS: [Happening; 23] = [
     ("countdown flags set", |s| s.sets(INTDF)),
     ("ticks of 8", |s| s.ticks(8)),
     ("ticks of 512", |s| s.ticks(512)),
@@ -136,6 +160,7 @@ pub struct Depth {
     refusals: [u64; 9],
     pulses: u64,
     ended_open: u64,
+    alarms: [u64; ALARMS.len()],
     steps: [u64; STEPS.len()],
     lines: [u64; LINES.len()],
 }
@@ -179,7 +204,8 @@ impl Depth {
     }
 
     fn watch_step(&mut self, step: &Step) {
-        for (count, (_, happens)) in self.steps.iter_mut().zip(STEPS) {
+        let alarms = self.alarms.iter_mut().zip(ALARMS);
+        for (count, (_, happens)) in alarms.chain(self.steps.iter_mut().zip(STEPS)) {
             *count += u64::from(happens(step));
         }
     }
@@ -196,6 +222,7 @@ impl Depth {
     pub fn counts(&self) -> Vec<(String, u64)> {
         let refused = |number: usize| format!("files refused with {number}");
         let refusals = (1..).zip(&self.refusals[1..]);
+        let alarms = ALARMS.iter().map(|(name, _)| name).zip(&self.alarms);
         let steps = STEPS.iter().map(|(name, _)| name).zip(&self.steps);
         let lines = LINES.iter().map(|(name, _)| name).zip(&self.lines);
         let mut counts = vec![
@@ -207,7 +234,7 @@ impl Depth {
             ("pulses".to_string(), self.pulses),
         ];
         counts.extend(refusals.map(|(number, count)| (refused(number), *count)));
-        let named = steps.chain(lines);
+        let named = alarms.chain(steps).chain(lines);
         counts.extend(named.map(|(name, count)| (name.to_string(), *count)));
         counts
     }

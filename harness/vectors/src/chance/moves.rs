@@ -10,6 +10,8 @@
 //! - 09h: none to seven reads with ACK,
 //! - 0Ah: no event; one time in four the rest of the move is left out,
 //! - 0Bh: one event of any kind, with a byte or pulses if the kind has them,
+//! - 0Ch: fourteen master bytes, of one place in the rows 0 to 13: a time and an
+//!   alarm for the second after it,
 //! - 20h to 37h: a master byte of the rows 0 to 23,
 //! - 40h to 43h: the master bytes 64h, 65h, 80h and 84h,
 //! - 80h to 9Fh: the master bytes 00h to 1Fh.
@@ -17,7 +19,7 @@
 //! Every other item, and so the 00h at the end of most rows, stands for nothing.
 
 use super::draws::Draws;
-use super::tables::{ANY_BYTE_ROW, MOVES};
+use super::tables::{ANY_BYTE_ROW, BYTES, MOVES, TIME_AND_ALARM};
 use crate::script::Event;
 use reference::EVENT_BYTES;
 
@@ -103,6 +105,7 @@ impl Events {
             0x08 => self.plain(Event::POWER_LOSS),
             0x09 => self.reads(draws),
             0x0B => self.out_of_place(draws),
+            0x0C => self.time_and_alarm(draws),
             FIRST_ROW..=LAST_ROW => self.row_byte(draws, usize::from(item - FIRST_ROW)),
             0x40 => self.master_byte(0x64),
             0x41 => self.master_byte(0x65),
@@ -137,6 +140,13 @@ impl Events {
     fn row_byte(&mut self, draws: &mut Draws, row: usize) {
         let byte = draws.byte_of(row);
         self.master_byte(byte);
+    }
+
+    fn time_and_alarm(&mut self, draws: &mut Draws) {
+        let place = draws.below(16);
+        for row in &BYTES[..TIME_AND_ALARM] {
+            self.master_byte(row[place]);
+        }
     }
 
     fn out_of_place(&mut self, draws: &mut Draws) {

@@ -44,6 +44,36 @@ fn a_known_script_is_counted() {
     assert_eq!(counts, HashMap::from(expected));
 }
 
+/// A minute begins with an alarm, and is gone on with for two seconds; its flag is
+/// cleared after the first of them. Then the time is set back.
+#[test]
+fn a_match_that_lasts_is_counted() {
+    let script = Script::at([0x59, 0x29, 0xA0, 0x05, 0x08, 0x08, 0x08])
+        .unlock_with(&[0x92])
+        .storing(0x08, &[0x30])
+        .store(0x0E, &[0x02])
+        .pulses(2 * 32_768)
+        .store(0x0F, &[0x84])
+        .pulses(32_768)
+        .store(0x00, &[0x59, 0x29])
+        .pulses(32_768);
+    let mut depth = Depth::default();
+    depth.watch_file(&Placed::start_first(&script).finish());
+    let counts = by_name(&depth);
+    for (name, count) in [
+        ("alarms", 2),
+        ("alarm flags set", 2),
+        ("alarms with the flag set", 0),
+        ("alarms by minute", 2),
+        ("alarms by hour", 0),
+        ("seconds within a match", 2),
+        ("seconds within a match, the flag clear", 1),
+        ("alarm flags cleared within a match", 1),
+    ] {
+        assert_eq!(counts[name], count, "{name}");
+    }
+}
+
 /// A transfer is left alone until the second is about to end. It ends behind
 /// the next 65h, and the read goes over the end.
 #[test]
@@ -69,7 +99,7 @@ fn an_old_time_is_counted() {
 }
 
 /// The least that 4,000 files must show, about half of what they do.
-const LEAST: [(&str, u64); 35] = [
+const LEAST: [(&str, u64); 39] = [
     ("files that ran", 2_600),
     ("files that ended with the lock open", 1_600),
     ("files refused with 2", 12),
@@ -79,30 +109,34 @@ const LEAST: [(&str, u64); 35] = [
     ("files refused with 6", 4),
     ("files refused with 7", 200),
     ("files refused with 8", 8),
-    ("alarm flags set", 60),
-    ("alarms by second", 25),
-    ("alarms by minute", 10),
-    ("alarms by hour", 5),
-    ("alarms by weekday", 5),
-    ("alarms by day", 3),
-    ("alarms by month", 3),
-    ("alarms by year", 3),
+    ("alarms", 210),
+    ("alarm flags set", 200),
+    ("alarms by second", 80),
+    ("alarms by minute", 70),
+    ("alarms by hour", 40),
+    ("alarms by weekday", 40),
+    ("alarms by day", 40),
+    ("alarms by month", 25),
+    ("alarms by year", 25),
+    ("seconds within a match", 115),
+    ("seconds within a match, the flag clear", 100),
+    ("alarm flags cleared within a match", 95),
     ("countdown flags set", 300),
     ("ticks of 512", 4_000),
     ("ticks of 32768", 20),
-    ("flags cleared by a byte", 100),
+    ("flags cleared by a byte", 240),
     ("flags cleared at STOP", 35),
     ("trimmed seconds ended", 100),
     ("seconds ended beyond their length", 12),
-    ("days stepped", 200),
-    ("months stepped", 120),
-    ("years stepped", 50),
-    ("leap days reached", 5),
-    ("transfers timed out", 400),
+    ("days stepped", 400),
+    ("months stepped", 240),
+    ("years stepped", 170),
+    ("leap days reached", 85),
+    ("transfers timed out", 580),
     ("reads of an old time", 120),
     ("wraps that latched anew", 35),
     ("power losses", 150),
-    ("lines L by the alarm's pulse", 150),
+    ("lines L by the alarm's pulse", 450),
     ("lines L by the countdown's pulse", 1_200),
     ("lines X", 400),
 ];

@@ -6,6 +6,7 @@ mod files;
 mod moves;
 mod row;
 mod steps;
+mod tables;
 
 use super::draws::Draws;
 use crate::lines::lines;

@@ -54,7 +54,7 @@ fn plain_items_append_one_event() {
 fn other_items_append_nothing() {
     let others = [
         0x00..=0x00,
-        0x0C..=0x1F,
+        0x0D..=0x1F,
         0x38..=0x3F,
         0x44..=0x7F,
         0xA0..=0xFF,
@@ -130,6 +130,14 @@ fn rows_have_an_item_each() {
 }
 
 #[test]
+fn a_time_and_its_alarm_have_one_place() {
+    for place in [0, 9, 15] {
+        let column: Vec<[u8; 4]> = BYTES[..14].iter().map(|row| byte(row[place])).collect();
+        check(&[0x0C], &[(place, 16)], &column);
+    }
+}
+
+#[test]
 fn no_event_ends_behind_byte_4000() {
     for (at, fitting) in [(3_992, 2), (3_993, 1), (3_996, 1), (3_997, 0)] {
         let draws = drawing(&[]);
@@ -172,6 +180,6 @@ fn a_move_is_found_by_its_number() {
 /// What the tables hold is what a move can be made of.
 #[test]
 fn moves_are_made_of_items() {
-    let known = |item: &u8| matches!(item, 0x00..=0x0B | 0x20..=0x37 | 0x40..=0x43 | 0x80..=0x9F);
+    let known = |item: &u8| matches!(item, 0x00..=0x0C | 0x20..=0x37 | 0x40..=0x43 | 0x80..=0x9F);
     assert!(MOVES.iter().flatten().all(known));
 }

@@ -28,14 +28,14 @@ fn whole_steps_stay_the_same() {
     let worked = [
         (
             0,
-            "475913052800094114320401120008B4D7893F070F59840F13FF8059101F0F0E\
+            "475913052800090014242001010408B4D7893F070F59840F13FF8059101F0F0E\
              5A7DA301311299391D00000000201E0004867F0000FEFF0500FEFF0700",
             (6, 0, 0),
             171_871_585,
         ),
         (
             1,
-            "5E59A40C5E04190400006C310299FB85A3073F03846500806595654380840765\
+            "5E59A40C5E04190400006C290200FB85A3073F03846500806595654380840765\
              594F110531129903190301873F0600FE0FFF0F0000FE7F0000FFFF1D00",
             (4, 0, 0),
             1_484_013_142,
@@ -63,7 +63,7 @@ fn many_steps_stay_the_same() {
         digest.take_bytes(&[event.kind, event.byte]);
         digest.take_bytes(&event.count.to_le_bytes());
     }
-    assert_eq!(digest.value(), 2_746_385_340);
+    assert_eq!(digest.value(), 1_113_112_003);
     assert_eq!(draws.x(), 3_328_850_524);
 }
 
