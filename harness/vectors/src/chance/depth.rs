@@ -35,7 +35,7 @@ impl Step<'_> {
         self.ends_second() && on && both
     }
 
-    /// A flag goes that has not to come back before the match is over.
+    /// A flag goes that must not come back while the match lasts.
     fn clears_in_match(&self) -> bool {
         let matches = self.before.regs[ALARM_ENABLE] != 0 && self.before.alarm_meets_time();
         self.clears(INTAF) && matches
