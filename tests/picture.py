@@ -103,7 +103,7 @@ def waves():
 
 
 def moments():
-    """What happened in pulses stands in proportion: event 96 rings at pulses 32,763 and 65,531 of 65,535."""
+    """What happened in pulses stands in proportion: event 96 rings at pulse 32,763 of 65,535."""
     root = parsed(items_of("every"))
     row, places = next((row, places) for row, places in rows_of(root) if 96 in places)
     begin, width = span_of(row, places[96])
@@ -113,10 +113,9 @@ def moments():
         x = begin + width * pulse / 65535
         yield f"the pin at pulse {pulse} of event 96", heights_at(row, "pin", x) == {level}
     rise = [x for x, _, height in pieces(row, "intaf") if height == picture.FLAG_TOPS["INTAF"]]
-    yield "INTAF rises with the first ring", abs(min(rise) - (begin + width * 32763 / 65535)) < 0.1
+    yield "INTAF rises with the ring", abs(min(rise) - (begin + width * 32763 / 65535)) < 0.1
     rings = [float(x) for mark in found(row, "path", "alarm") for x in re.findall(r"M([0-9.]+)", mark.get("d"))]
-    owed = [begin + width * pulse / 65535 for pulse in (32763, 65531)]
-    yield "two rings", len(rings) == 2 and all(abs(ring - x) < 0.1 for ring, x in zip(rings, owed))
+    yield "one ring", len(rings) == 1 and abs(rings[0] - (begin + width * 32763 / 65535)) < 0.1
     yield "what happened often", sorted(texts(root, "often")) == ["75 changes", "75 zeros"]
     yield "few changes of the pin", len(list(pieces(row, "pin"))) > 4
     yield "the timeout", len(found(root, "path", "timeout")) == 1 and texts(root, "note").count("timeout") == 1
