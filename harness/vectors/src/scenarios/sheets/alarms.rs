@@ -19,7 +19,7 @@ pub fn scripts() -> Vec<Script> {
         weekdays_at_half_past_eight().named("003, 001: alarm example 2, Mon Tue Fri 8:30:00"),
         first_of_each_month().named("003, 001: alarm example 3, the 1st at 8:30:00"),
         opening_of_the_games().named("003, 001: alarm example 4, 2008-08-08 20h"),
-        games_rung_once().named("003, 000, 001: alarm example 4 rings once"),
+        games_rung_once().named("003, 001: alarm example 4 rings once"),
         first_second_of_a_match().named("003, 000, 001: the first second of a match rings"),
         saturday_and_monday().named("003, 000, 001: weekday alarm AW6 and AW1"),
         day_before_weekday().named("003, 000, 001: with day and weekday only the day"),

@@ -83,7 +83,7 @@ fn eight_in_the_evening_of_one_day() {
 /// then on; 0Fh reads its two lock bits and RTCF.
 #[test]
 fn a_cleared_flag_stays_clear_up_to_nine() {
-    let printed = printed("003, 000, 001: alarm example 4 rings once");
+    let printed = printed("003, 001: alarm example 4 rings once");
     assert_eq!(pulse_pins(&printed), "LLLLHHH");
     assert_eq!(printed.bytes_read(), [0x85, 0x85]);
     let [.., cleared, six, _, last, nine] = &printed.states[..] else {
