@@ -38,24 +38,27 @@ static int tick(struct yardstick *chip)
     return 1;
 }
 
-static int rings(const unsigned char *registers)
+/* Whether each field that 0Eh enables matches; where it enables none there is always a match. */
+static int matches(const unsigned char *registers)
 {
     static const unsigned char compared[TIME_SIZE] = {0xFF, 0xFF, 0x3F, 0x00, 0xFF, 0xFF, 0xFF};
     unsigned int enabled = registers[ALARM_ENABLE];
-    if (enabled == 0 || !(registers[CTR2] & INTAE))
-        return 0;
     for (int field = 0; field < TIME_SIZE; field++)
         if (enabled >> field & 1 && (registers[field] ^ registers[ALARM + field]) & compared[field])
             return 0;
-    /* With the day enabled the weekday is not asked. */
+    /* With the day enabled the weekday is not asked; for the weekday 7 there is a fixed bit, which is 0. */
     return (enabled >> WEEKDAY & 1) == 0 || enabled >> DAY & 1 || registers[ALARM + WEEKDAY] >> registers[WEEKDAY] & 1;
 }
 
-/* A second's end; whether the alarm rings. It is rare, and out of the loop it takes no machine registers from it. */
+/*
+ * A second's end; whether the alarm rings, which it does where a match begins. It is rare, and out of the loop it takes
+ * no machine registers from it.
+ */
 static __attribute__((noinline)) int end_second(unsigned char *registers)
 {
+    const int can_begin = registers[CTR2] & INTAE && !matches(registers);
     second_on(registers);
-    if (!rings(registers))
+    if (!can_begin || !matches(registers))
         return 0;
     registers[CTR1] |= INTAF;
     return 1;
