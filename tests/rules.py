@@ -31,7 +31,7 @@ SECTIONS = re.compile(r"\bsections? (%s)\b(?!\.\d)" % LIST.format(r"\d+"))
 
 
 def pages():
-    return [Path("README.md"), *sorted(Path("docs").glob("*.md"))]
+    return [Path("README.md"), *sorted(Path("docs").glob("**/*.md"))]
 
 
 def lines(file):
