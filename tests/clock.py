@@ -380,6 +380,24 @@ def try_pictured(tries, folder):
     tries.complains("a refused script has no picture", refused, b"clock: standard input: no picture: refused 4", 1)
 
 
+def try_yearly(tries):
+    """The sheets' alarm for one hour of one day: it rings once, and INTAF, cleared while the hour lasts, stays 0."""
+    script = ROOT / "examples" / "yearly.text"
+    status, out, err = run("--explain", script)
+    lines = out.decode().splitlines()
+    said = ("the alarm rings at pulse ", "the pin goes low", "the pin goes high", "84h: stored at 0Fh")
+    rings, falls, rises, cleared = ([at for at, line in enumerate(lines) if words in line] for words in said)
+    tries.same("a yearly alarm", (status, err, len(rings), out.count(b"the alarm rings")), (0, b"", 1, 1))
+    hour = "the time is 2008-08-08 20:00:00; the alarm rings "
+    tries.same("its time", [hour in lines[at] for at in rings], [True])
+    tries.same("the pin, low until INTAF is cleared", (falls, rises), (rings, cleared))
+    # WRTC3, WRTC2 and RTCF.
+    tries.same("0Fh later in the hour", [line[:2] for line in lines if "  read 0Fh" in line], ["85", "85"])
+    picture = xml.etree.ElementTree.fromstring(run("--picture", script)[1])
+    marks = [mark.get("d") for mark in picture.iter() if "alarm" in mark.get("class", "").split()]
+    tries.same("its marks in the picture", "".join(marks).count("M"), 1)
+
+
 # Stand-ins
 
 def slow_facts():
@@ -525,7 +543,7 @@ def main():
     for group in (try_blank, try_content, try_endings):
         with tempfile.TemporaryDirectory() as name:
             group(tries, Path(name))
-    groups = (try_model, try_pipes, try_long_texts, try_help, try_progress, try_progress_line)
+    groups = (try_yearly, try_model, try_pipes, try_long_texts, try_help, try_progress, try_progress_line)
     for group in (*groups, try_failing, try_interrupt, try_building, try_two_builds, try_without_rt, try_settings):
         group(tries)
     return 1 if tries.failed else 0
