@@ -63,11 +63,12 @@ def pulse_works():
 
     Some pulses come before: then pin pulses are under way where the two sides' states are compared.
     """
-    every_second = store(0x0A, 0x7F) + store(0x0E, 0x08)
+    # By its seconds: pulses alone make no alarm ring more often. The first round ends just behind a ring.
+    every_minute = store(0x07, 0x02) + store(0x0E, 0x01)
     settings = {
         "nothing enabled": [],
         "trimmed seconds": UNLOCK + store(0x12, 0x3F),
-        "alarm ringing each second": UNLOCK + every_second + store(0x10, 0xD2),
+        "alarm ringing each minute": UNLOCK + every_minute + store(0x10, 0xD2),
         "countdown, TDS 0": UNLOCK + store(0x11, 0x00) + store(0x13, 0xC8) + store(0x10, 0xB4),
         "countdown, TDS 2": UNLOCK + store(0x11, 0x20) + store(0x13, 0x02) + store(0x10, 0xB4),
     }
