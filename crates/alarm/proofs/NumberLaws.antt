@@ -1,6 +1,6 @@
 -- When an alarm rings, by second numbers: once in each minute, and once in a century. Assumes nothing.
 use mathlib.Core.Path.{_≡_, refl, sym, ap, ap₂, _∙_}
-use mathlib.Core.Bool.{Bool, true, false, _&&_, _||_, not, false≢true}
+use mathlib.Core.Bool.{Bool, true, false, _&&_, _||_, not, and-true, and-false, false≢true}
 use Prim.Native.Nat.{ℕ, _+_, _*_, _/_, _%_, _<_}
 use native.Mathlib.Decide.{ℕ-discrete}
 use native.Mathlib.Omega.{arith}
@@ -25,7 +25,7 @@ use Rattle.calendar.proofs.AdvanceLaws.{advances, advance-mode}
 use Rattle.alarm.specs.Matching.{off, matchesOf}
 use Rattle.alarm.specs.Alarm.{meetsOf, ringsOf}
 use Rattle.alarm.specs.declared.alarm.Alarm.{Alarm}
-use Rattle.alarm.proofs.RingLaws.{and-true, and-none, seconds-ring}
+use Rattle.alarm.proofs.RingLaws.{seconds-ring}
 
 -- two digits are equal exactly if their values are
 same-value : (x y : ℕ) → Held 0x00 0x59 x → Held 0x00 0x59 y → eqb x y ≡ eqb (valueOf x) (valueOf y)
@@ -211,7 +211,7 @@ module _ (a : Alarm) (on : off 0x04 (a .enable) ≡ false) (m : HourMode) (never
       let e : eqb (u .hours % 64) (a .at .hours % 64) ≡ false = ap (λ (x : ℕ). eqb (x % 64) (a .at .hours % 64)) (sym code) ∙ never (hourNumberOf (u .hours)) (l .clock .hours) in
       let seconds = off 0x01 (a .enable) || eqb (u .seconds) (a .at .seconds) in
       let minutes = off 0x02 (a .enable) || eqb (u .minutes) (a .at .minutes) in
-      simp (on, e, and-none (seconds && minutes))
+      simp (on, e, and-false (seconds && minutes))
 
   pub hour-never : (t : Time) → Moment t → modeOf (t .hours) ≡ m → ringsOf a t (advanceOf t) ≡ false
   hour-never t l mode = rw (unmet (advanceOf t) (advances t l .moment) (advance-mode t ∙ mode)) refl

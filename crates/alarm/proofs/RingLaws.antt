@@ -1,9 +1,9 @@
 -- When an alarm rings: where a match begins, and not while it lasts. Assumes nothing.
 use mathlib.Core.Path.{_≡_, refl, sym, ap, _∙_}
-use mathlib.Core.Bool.{Bool, true, false, cond, _&&_, not, Bool·beq, true≢false}
+use mathlib.Core.Bool.{Bool, true, false, cond, _&&_, not, and-true, and-false, and-not-self, Bool·beq, true≢false}
 use Prim.Native.Nat.{ℕ, _<_}
 use native.Mathlib.Decide.{ℕ-discrete}
-use lib.Dec.{T, eqb}
+use lib.Dec.{eqb}
 use borrow.Author.Tests.{eqb-true, ne-eqb}
 use Rattle.fields.specs.Digits.{stepOf}
 use Rattle.fields.specs.declared.times.TimeOfDay.{TimeOfDay}
@@ -19,28 +19,18 @@ use Rattle.alarm.specs.Matching.{weekdayIn, off, matchesOf}
 use Rattle.alarm.specs.Alarm.{meetsOf, ringsOf, rungOf}
 use Rattle.alarm.specs.declared.alarm.Alarm.{Alarm}
 
-pub and-true : (x : Bool) → x && true ≡ x
-and-true true = refl
-and-true false = refl
-
-pub and-none : (x : Bool) → x && false ≡ false
-and-none true = refl
-and-none false = refl
-
 -- nothing begins where the match is as it was
 unmoved : (x y : Bool) → x ≡ y → x && not y ≡ false
-unmoved true true e = refl
-unmoved true false e = absurd (true≢false e)
-unmoved false y e = refl
+unmoved x y e = rw e (and-not-self y)
 
 -- while a match lasts nothing rings, from whatever time it is entered
 pub match-lasts : (a : Alarm) (s t : Time) → meetsOf a s ≡ true → ringsOf a s t ≡ false
-match-lasts a s t e = rw e (and-none (meetsOf a t))
+match-lasts a s t e = rw e (and-false (meetsOf a t))
 
 -- so flag and pin pulse stay as they are, and where a match begins the one is set and the other whole
 pub lasts-alone : (a : Alarm) (s t : Time) (asked : Bool) → meetsOf a s ≡ true → rungOf a s t asked ≡ a
 unfolding rungOf
-lasts-alone a s t asked e = rw (match-lasts a s t e, and-none asked) refl
+lasts-alone a s t asked e = rw (match-lasts a s t e, and-false asked) refl
 
 pub begins-whole : (a : Alarm) (s t : Time) → meetsOf a t ≡ true → meetsOf a s ≡ false → rungOf a s t true ≡ record { at = a .at; enable = a .enable; flag = true; pulse = 8192 }
 unfolding rungOf
@@ -58,18 +48,14 @@ empty-silent a s t e = match-lasts a s t (empty-meets a s e)
 pub enabled-rings : (a : Alarm) (s t : Time) → ringsOf a s t ≡ (not (eqb (a .enable) 0) && ringsOf a s t)
 enabled-rings a s t =
     elim (ℕ-discrete (a .enable) 0) [
-      | yes e ↦ rw (empty-silent a s t e) (sym (and-none (not (eqb (a .enable) 0))))
+      | yes e ↦ rw (empty-silent a s t e) (sym (and-false (not (eqb (a .enable) 0))))
       | no n ↦ rw (ne-eqb (a .enable) 0 n) refl
     ]
 
 -- the seconds never stay where they are
-moves : (x : ℕ) → x < 256 → T (not (eqb (stepOf 0x00 0x59 x) x))
+moves : (x : ℕ) → x < 256 → eqb (stepOf 0x00 0x59 x) x ≡ false
 unfolding stepOf
-moves = each (λ (x : ℕ). not (eqb (stepOf 0x00 0x59 x) x)) 256 tt
-
-not-same : (b : Bool) → T (not b) → b ≡ false
-not-same true t = absurd t
-not-same false t = refl
+moves x b = same (eqb (stepOf 0x00 0x59 x) x) false (each (λ (y : ℕ). Bool·beq (eqb (stepOf 0x00 0x59 y) y) false) 256 tt x b)
 
 -- an alarm that compares the seconds rings wherever it matches
 module _ (a : Alarm) (on : off 0x01 (a .enable) ≡ false) where
@@ -85,7 +71,7 @@ module _ (a : Alarm) (on : off 0x01 (a .enable) ≡ false) where
 
   pub seconds-ring : (t : Time) → t .seconds < 256 → ringsOf a t (advanceOf t) ≡ meetsOf a (advanceOf t)
   unfolding advanceOf nextTimeOf
-  seconds-ring t b = by-second t (advanceOf t) (not-same (eqb (stepOf 0x00 0x59 (t .seconds)) (t .seconds)) (moves (t .seconds) b)) (eqb (t .seconds) (a .at .seconds)) refl
+  seconds-ring t b = by-second t (advanceOf t) (moves (t .seconds) b) (eqb (t .seconds) (a .at .seconds)) refl
 
 -- the hours stay where seconds and minutes have not both come to 00h
 hours-stay : (c : TimeOfDay) (s m : Bool) → eqb (nextTimeOf c .seconds) 0x00 ≡ s → eqb (nextTimeOf c .minutes) 0x00 ≡ m → s && m ≡ false → nextTimeOf c .hours ≡ c .hours

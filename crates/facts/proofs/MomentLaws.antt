@@ -14,9 +14,9 @@ use Rattle.bus.specs.declared.phase.Phase.{Phase}
 use Rattle.bus.specs.declared.phase.Phase.the-variants.{Closed, Open}
 use Rattle.bus.specs.Phase.{olderIn, closedBus}
 use Rattle.sd2068.specs.declared.clock.Clock.{Clock}
-use Rattle.sd2068.specs.Step.{Told, stepOf, eventOf}
+use Rattle.sd2068.specs.Step.{stepOf}
 use Rattle.sd2068.specs.Pulse.{pulseOf, pulsesOf}
-use Rattle.sd2068.proofs.WellLaws.{Well, pulses-well, step-taken}
+use Rattle.sd2068.proofs.WellLaws.{Well, pulses-well, step-pulses}
 use Rattle.facts.specs.Moments.{openOf, momentOf, endedOf, rangOf, zeroedOf, timedOutOf, pulseMoment}
 
 -- a pin pulse is whole only where it has just begun
@@ -62,11 +62,7 @@ module _ (c : Clock) (w : Well c) where
 abbrev single : Clock → Clock
 single c = stepOf c 5 0 1 .state
 
-single-pulse : (c : Clock) → Well c → single c ≡ pulseOf c
-unfolding eventOf times
-single-pulse c w = ap (λ (t : Told). t .state) (step-taken c w 5 0 1 refl)
-
 pub one-by-one : (n : ℕ) (c : Clock) → Well c → times single n c ≡ pulsesOf c n
 unfolding times
 one-by-one zero c w = refl
-one-by-one (suc n) c w = ap single (one-by-one n c w) ∙ single-pulse (pulsesOf c n) (pulses-well c w n)
+one-by-one (suc n) c w = ap single (one-by-one n c w) ∙ step-pulses (pulsesOf c n) (pulses-well c w n) 1

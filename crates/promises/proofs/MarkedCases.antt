@@ -23,7 +23,6 @@ use Rattle.control.specs.Lock as lock
 use Rattle.control.specs.Control as control
 use Rattle.bus.specs.Bytes.{heardOf}
 use Rattle.bus.specs.Reads as reads
-use Rattle.events.specs.Refusal.{faultOf}
 use Rattle.sd2068.specs.declared.clock.Clock.{Clock}
 use Rattle.sd2068.specs.Power.{poweredOf, powerOnOf}
 use Rattle.sd2068.specs.Reading.{controlAtOf, registerOf, registersTo, shownOf}
@@ -32,17 +31,16 @@ use Rattle.sd2068.specs.Pulse.{pulseOf}
 use Rattle.sd2068.specs.Pin.{pinOf}
 use Rattle.sd2068.specs.Transfer.{stoppedOf, byteOf, renewedOf, readOf}
 use Rattle.sd2068.specs.WellFormed.{wellFormedOf}
-use Rattle.sd2068.specs.Step.{eventOf, refusalOf, Told, stepOf}
+use Rattle.sd2068.specs.Step.{eventOf, refusalOf, stepOf}
 use Rattle.sd2068.specs.Run.{after}
 use Rattle.hand.proofs.SpanLaws.{ticks-within}
 use Rattle.sd2068.proofs.GroupLaws.{pulses-hand}
-use Rattle.sd2068.proofs.WellLaws.{Well, parts, step-well, step-taken}
+use Rattle.sd2068.proofs.WellLaws.{Well, parts, step-well, step-pulses}
 use Rattle.promises.specs.Marked.{writes, unlocks, fresh, sample, nextSecond, trimmedFresh, soon, around, tried, answers, opened, counting, cleared, intdf, Becomes, Lasts, Marked}
 
 -- the hand after an event of n pulses
-step-hand : (c : Clock) → Well c → (n : ℕ) → faultOf 5 0 n ≡ 0 → stepOf c 5 0 n .state .hand ≡ times tickedOf n (c .hand)
-unfolding eventOf
-step-hand c w n good = ap (λ (t : Told). t .state .hand) (step-taken c w 5 0 n good) ∙ pulses-hand n c
+step-hand : (c : Clock) → Well c → (n : ℕ) → stepOf c 5 0 n .state .hand ≡ times tickedOf n (c .hand)
+step-hand c w n = ap (λ (d : Clock). d .hand) (step-pulses c w n) ∙ pulses-hand n c
 
 -- n pulses do not end the present second
 abbrev Short : Clock → ℕ → Type 0
@@ -63,26 +61,26 @@ module _ (c : Clock) (n : ℕ) (well : wellFormedOf c ≡ true) (short : Short c
   waits : times tickedOf n (c .hand) ≡ waiting c n
   waits = ticks-within (c .hand) n (ltb→lt (c .hand .counter + n) (lengthOf (c .hand .time .seconds) (c .hand .trim)) short)
 
-  seven-row : faultOf 5 0 (suc n) ≡ 0 → registersTo (stepOf c 5 0 (suc n) .state) 7 ≡ sevenLater c n
+  seven-row : registersTo (stepOf c 5 0 (suc n) .state) 7 ≡ sevenLater c n
   unfolding registersTo registerOf byteAtOf times
-  seven-row good = ap (λ (h : Hand). bytesOf (h .time)) (step-hand c (parts c well) (suc n) good ∙ ap tickedOf waits)
+  seven-row = ap (λ (h : Hand). bytesOf (h .time)) (step-hand c (parts c well) (suc n) ∙ ap tickedOf waits)
 
-  soon-row : faultOf 5 0 n ≡ 0 → soon (stepOf c 5 0 n .state) ≡ soonLater c n
+  soon-row : soon (stepOf c 5 0 n .state) ≡ soonLater c n
   unfolding soon registerOf controlAtOf byteAtOf times
-  soon-row good =
+  soon-row =
       let d = stepOf c 5 0 n .state in
-      ap (λ (h : Hand). d .hand .trim ∷ d .hand .time .seconds ∷ h .time .seconds ∷ []) (step-hand d (step-well c (parts c well) 5 0 n) 1 refl)
-      ∙ ap (λ (h : Hand). h .trim ∷ h .time .seconds ∷ tickedOf h .time .seconds ∷ []) (step-hand c (parts c well) n good ∙ waits)
+      ap (λ (h : Hand). d .hand .trim ∷ d .hand .time .seconds ∷ h .time .seconds ∷ []) (step-hand d (step-well c (parts c well) 5 0 n) 1)
+      ∙ ap (λ (h : Hand). h .trim ∷ h .time .seconds ∷ tickedOf h .time .seconds ∷ []) (step-hand c (parts c well) n ∙ waits)
 
 becomes : {time later : List ℕ} → wellFormedOf (fresh time) ≡ true → Short (fresh time) 32767 → sevenLater (fresh time) 32767 ≡ later → Becomes time later
 unfolding nextSecond
-becomes {time} well short e = record { reads = seven-row (fresh time) 32767 well short refl ∙ e }
+becomes {time} well short e = record { reads = seven-row (fresh time) 32767 well short ∙ e }
 
 lasts :
-    (s f n : ℕ) → wellFormedOf (trimmedFresh s f) ≡ true → Short (trimmedFresh s f) (n - 1) → faultOf 5 0 (n - 1) ≡ 0
+    (s f n : ℕ) → wellFormedOf (trimmedFresh s f) ≡ true → Short (trimmedFresh s f) (n - 1)
     → soonLater (trimmedFresh s f) (n - 1) ≡ f ∷ s ∷ (s + 1) ∷ [] → Lasts s f n
 unfolding around
-lasts s f n well short good e = record { reads = soon-row (trimmedFresh s f) (n - 1) well short good ∙ e }
+lasts s f n well short e = record { reads = soon-row (trimmedFresh s f) (n - 1) well short ∙ e }
 
 eight : answers opened ≡ (50 ∷ 48 ∷ []) ∷ (70 ∷ 70 ∷ []) ∷ []
 unfolding fresh sample opened answers after stepOf eventOf refusalOf wellFormedOf hand.wellOf alarm.wellOf countdown.wellOf lock.wellOf control.wellOf keptOf keptTime keptAlarm keptControl clearOf clearTimeOf powerOnOf poweredOf byteOf heardOf readOf reads.readOf renewedOf shownOf pinOf times pulseOf hand.tickedOf alarm.rungOf countdown.countedOf lengthOf changeOf
@@ -100,22 +98,22 @@ marked =
       case2 = (becomes refl tt refl, becomes refl tt refl);
       case3 = (becomes refl tt refl, becomes refl tt refl, becomes refl tt refl);
       case4 = (
-        lasts 0x00 0x02 32770 refl tt refl refl,
-        lasts 0x00 0x3F 32892 refl tt refl refl,
-        lasts 0x00 0x42 32644 refl tt refl refl,
-        lasts 0x00 0x7E 32764 refl tt refl refl,
-        lasts 0x00 0x7F 32766 refl tt refl refl,
-        lasts 0x01 0x02 32768 refl tt refl refl,
-        lasts 0x01 0x3F 32768 refl tt refl refl,
-        lasts 0x01 0x42 32768 refl tt refl refl,
-        lasts 0x01 0x7E 32768 refl tt refl refl,
-        lasts 0x01 0x7F 32768 refl tt refl refl,
+        lasts 0x00 0x02 32770 refl tt refl,
+        lasts 0x00 0x3F 32892 refl tt refl,
+        lasts 0x00 0x42 32644 refl tt refl,
+        lasts 0x00 0x7E 32764 refl tt refl,
+        lasts 0x00 0x7F 32766 refl tt refl,
+        lasts 0x01 0x02 32768 refl tt refl,
+        lasts 0x01 0x3F 32768 refl tt refl,
+        lasts 0x01 0x42 32768 refl tt refl,
+        lasts 0x01 0x7E 32768 refl tt refl,
+        lasts 0x01 0x7F 32768 refl tt refl,
       );
       case5 = (
-        lasts 0x00 0x15 32808 refl tt refl refl,
-        lasts 0x00 0x44 32648 refl tt refl refl,
-        lasts 0x00 0x40 32768 refl tt refl refl,
-        lasts 0x00 0x41 32768 refl tt refl refl,
+        lasts 0x00 0x15 32808 refl tt refl,
+        lasts 0x00 0x44 32648 refl tt refl,
+        lasts 0x00 0x40 32768 refl tt refl,
+        lasts 0x00 0x41 32768 refl tt refl,
       );
       case6 = becomes refl tt refl;
       case7 = (refl, refl);

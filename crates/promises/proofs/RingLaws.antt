@@ -6,7 +6,7 @@ use mathlib.Core.Option.{some}
 use Prim.Native.Nat.{ℕ, zero, suc, _+_, _*_, _/_, _%_, _<_, _^_}
 use native.Mathlib.Omega.{arith}
 use lib.Dec.{eqb, ltb}
-use borrow.Author.Tests.{eqb-true, eq-eqb, ne-eqb, lt-ltb}
+use borrow.Author.Tests.{not-true, eqb-true, eq-eqb, ne-eqb, lt-ltb}
 use Rattle.fields.specs.declared.hours.HourMode.the-variants.{Twelve, TwentyFour}
 use Rattle.fields.specs.Digits.{valueOf, legalOf}
 use Rattle.fields.specs.Hours.{codes, placeOf, hourNumberOf, hourByteOf}
@@ -32,10 +32,6 @@ use Rattle.promises.specs.Registers.{bit, Inner, sevenFrom}
 use Rattle.promises.specs.Pulsed.{secondLength, matchesAt, ends, timeAfter, rings}
 use Rattle.promises.specs.Ring.{timeBefore, timeNext, Judged, Matched, Begins, Evening}
 use Rattle.promises.proofs.PulseLaws.{matches-same}
-
-not-true : (b : Bool) → not b ≡ true → b ≡ false
-not-true true e = sym e
-not-true false e = refl
 
 -- the alarm that registers r hold
 abbrev pub alarmAt : (ℕ → ℕ) → Alarm
@@ -213,7 +209,7 @@ module _ (r : ℕ → ℕ) (i : Inner) where
       bit 2 (r 0x0E) ≡ true → r 0x09 % 64 ≡ 0x20 → r 0x02 < 0x80 → (k : ℕ) → numberOf (timeBefore r) ≡ some k → Begins r i → ⊥
   no-such-hour on hour small k number b =
       let silent = numbers.hour-never (alarmAt r) (set (r 0x0E) 2 on) Twelve (rw hour twelve-codes) (timeBefore r) (number-moment (timeBefore r) k number) (rw (lt-ltb (r 0x02) 0x80 small) refl) in
-      true≢false (sym (begins-alarm r i (record { ended = b .ended; intae = b .intae }) b) ∙ silent)
+      true≢false (sym (rung-by b) ∙ silent)
 
   -- the registers but 0Fh decide, with the second counter: INTAF plays no part
   module _ (q : ℕ → ℕ) (k : Inner) (same : (a : ℕ) → (a ≡ 0x0F → ⊥) → r a ≡ q a) (counter : i .counter ≡ k .counter) where

@@ -4,16 +4,14 @@ use mathlib.Core.Logic.{_⊎_, inl, inr, _↔_}
 use mathlib.Core.Bool.{Bool, true, false, cond, _||_, false≢true}
 use Prim.Native.Nat.{ℕ, zero, suc, _-_, _≤_, _<_}
 use native.Mathlib.Omega.{arith}
-use lib.Dec.{eqb}
-use borrow.Author.Tests.{ne-eqb}
 use Rattle.calendar.specs.Repeat.{times}
 use Rattle.alarm.specs.Alarm as alarm
 use Rattle.alarm.proofs.RingLaws as laws
 use Rattle.sd2068.specs.declared.clock.Clock.{Clock}
 use Rattle.sd2068.specs.Pulse.{pulseOf, pulsesOf}
 use Rattle.sd2068.specs.Reading.{controlAtOf, registerOf}
-use Rattle.sd2068.specs.Step.{Told, quietOf, refusalOf, eventOf, stepOf}
-use Rattle.sd2068.proofs.WellLaws.{parts, step-taken}
+use Rattle.sd2068.specs.Step.{stepOf}
+use Rattle.sd2068.proofs.WellLaws.{parts, step-pulses}
 use Rattle.promises.specs.Registers.{bit, innerOf, State}
 use Rattle.promises.specs.Pulsed.{rings}
 use Rattle.promises.specs.Ring.{timeBefore, Begins, Matching, Silent}
@@ -93,12 +91,10 @@ empty-matching c e =
     let r = registerOf c in
     sym (matches-same r (timeBefore r)) ∙ laws.empty-meets (alarmAt r) (timeBefore r) e
 
--- by steps: one of n pulses leaves what n pulses leave, and one of none is refused and leaves the state
+-- and by steps
 module _ (c : Clock) (w : State c) where
   stepped-pulses : (n : ℕ) → stepOf c 5 0 n .state ≡ pulsesOf c n
-  unfolding stepOf refusalOf eventOf times
-  stepped-pulses zero = ap (λ (b : Bool). cond (eqb (cond b 3 1) 0) (eventOf c 5 0 0) (quietOf c) .clock) (w .well)
-  stepped-pulses (suc n) = ap (λ (t : Told). t .state) (step-taken c (parts c (w .well)) 5 0 (suc n) (simp (ne-eqb (suc n) 0 (λ e. omega arith))))
+  stepped-pulses = step-pulses c (parts c (w .well))
 
   one-pulse : stepOf c 5 0 1 .state ≡ pulseOf c
   unfolding times

@@ -1,6 +1,6 @@
 -- Bytes are a state's by four tests: what is plain, the bus, the countdown, and the other groups. Assumes nothing.
 use mathlib.Core.Path.{_≡_, refl, sym, ap, _∙_}
-use mathlib.Core.Bool.{Bool, true, false, _&&_, not, true≢false}
+use mathlib.Core.Bool.{Bool, true, false, _&&_, and-true, and-false}
 use mathlib.Core.List.{List}
 use Prim.Native.Nat.{ℕ}
 use Rattle.registers.specs.Fixed.{clearTimeOf}
@@ -13,23 +13,6 @@ use Rattle.bus.specs.Phase as bus
 use Rattle.sd2068.specs.WellFormed.{dividerWell, wellFormedOf}
 use Rattle.state_bytes.specs.Decoded.{handOf, alarmOf, countdownOf, lockOf, controlOf, dividerOf, busOf, clockOf, plainOf, isState}
 use Rattle.state_bytes.specs.Places.{timeAt}
-
--- a test turned round
-pub turned-true : (b : Bool) → not b ≡ true → b ≡ false
-turned-true true e = absurd (true≢false (sym e))
-turned-true false e = refl
-
-pub turned-false : (b : Bool) → not b ≡ false → b ≡ true
-turned-false true e = refl
-turned-false false e = absurd (true≢false e)
-
-and-false : (b : Bool) → b && false ≡ false
-and-false true = refl
-and-false false = refl
-
-and-true : (b : Bool) → b && true ≡ b
-and-true true = refl
-and-true false = refl
 
 -- the groups but for the bus and the countdown
 abbrev pub othersWell : List ℕ → Bool

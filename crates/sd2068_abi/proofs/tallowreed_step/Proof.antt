@@ -1,5 +1,5 @@
 -- Bytes that are no state's stay; else the event is said on them. Assumes nothing.
-use Rattle.state_bytes.proofs.JudgedLaws.{turned-true, turned-false}
+use borrow.Author.Tests.{not-true, not-false}
 use Rattle.sd2068_abi.proofs.AbiLaws.{other-length, no-other, step-refused, step-told}
 use Rattle.state_bytes.specs.Shapes.{Bytes}
 use Rattle.state_bytes.specs.Decoded.{isState}
@@ -24,7 +24,7 @@ same-length c = search needs
 returns-2 : tie.Need-returns-2
 returns-2 c =
     let s : List ℕ = c .before .before .before .before .before .args .state .now in
-    step-refused s _ _ _ (no-other s (sym (c .before .is-state .ensures) ∙ turned-true (c .before .is-state .result) (c .if2 .taken)))
+    step-refused s _ _ _ (no-other s (sym (c .before .is-state .ensures) ∙ not-true (c .before .is-state .result) (c .if2 .taken)))
 
 fault-requires : tie.Need-fault-requires
 fault-requires c κs = tt
@@ -42,7 +42,7 @@ returns-3 : tie.Need-returns-3
 returns-3 c =
     let s : List ℕ = c .before .before .before .before .before .before .before .before .before .before .before .args .state .now in
     let bytes : Bytes s = record { long = c .before .before .before .before .before .before .before .before .before .if1 .left; each = λ i. omega (arith, c .before .before .before .before .before .before .before .before .before .before .slice-known .given i) } in
-    let taken : isState s ≡ true = sym (c .before .before .before .before .before .before .before .is-state .ensures) ∙ turned-false (c .before .before .before .before .before .before .before .is-state .result) (c .before .before .before .before .before .before .if2 .left) in
+    let taken : isState s ≡ true = sym (c .before .before .before .before .before .before .before .is-state .ensures) ∙ not-false (c .before .before .before .before .before .before .before .is-state .result) (c .before .before .before .before .before .before .if2 .left) in
     step-told s _ _ _ _ _ _ bytes taken (c .before .before .before .number .ensures ∙ c .before .before .before .before .before .fault .ensures) (c .before .before .tell .ensures)
 
 pub tallowreed-step-spec : {M : Type 1} → statement M

@@ -7,7 +7,8 @@ use Rattle.alarm.specs.Alarm as alarm
 use Rattle.hand.specs.Hand as hand
 use Rattle.registers.specs.Fixed.{clearTimeOf}
 use mathlib.Core.Bool.{true, _&&_}
-use Rattle.state_bytes.proofs.JudgedLaws.{turned-true, turned-false, not-plain, not-bus, not-countdown, by-others}
+use borrow.Author.Tests.{not-true, not-false}
+use Rattle.state_bytes.proofs.JudgedLaws.{not-plain, not-bus, not-countdown, by-others}
 use Rattle.state_bytes.specs.Decoded.{countdownOf, busOf, plainOf}
 use Rattle.bus.specs.Phase.{wellOf}
 use Prim.Native.Nat.{ℕ}
@@ -22,7 +23,7 @@ plain-requires c κs = tt
 returns : tie.Need-returns
 returns c =
     let s : List ℕ = c .before .before .before .args .s .now in
-    not-plain s (sym (c .before .plain .ensures) ∙ turned-true (c .before .plain .result) (c .if1 .taken))
+    not-plain s (sym (c .before .plain .ensures) ∙ not-true (c .before .plain .result) (c .if1 .taken))
 
 bus-of-requires : tie.Need-bus-of-requires
 bus-of-requires c κs = tt
@@ -33,7 +34,7 @@ well-formed-requires c κs = tt
 returns-2 : tie.Need-returns-2
 returns-2 c =
     let s : List ℕ = c .before .before .before .before .before .before .args .s .now in
-    not-bus s (sym (c .before .well-formed .ensures ∙ ap wellOf (c .before .before .bus-of .ensures)) ∙ turned-true (c .before .well-formed .result) (c .if2 .taken))
+    not-bus s (sym (c .before .well-formed .ensures ∙ ap wellOf (c .before .before .bus-of .ensures)) ∙ not-true (c .before .well-formed .result) (c .if2 .taken))
 
 countdown-of-requires : tie.Need-countdown-of-requires
 countdown-of-requires c κs = tt
@@ -44,7 +45,7 @@ well-formed-requires-2 c κs = tt
 returns-3 : tie.Need-returns-3
 returns-3 c =
     let s : List ℕ = c .before .before .before .before .before .before .before .before .before .args .s .now in
-    not-countdown s (sym (c .before .well-formed2 .ensures ∙ ap countdown.wellOf (c .before .before .countdown-of .ensures)) ∙ turned-true (c .before .well-formed2 .result) (c .if3 .taken))
+    not-countdown s (sym (c .before .well-formed2 .ensures ∙ ap countdown.wellOf (c .before .before .countdown-of .ensures)) ∙ not-true (c .before .well-formed2 .result) (c .if3 .taken))
 
 hand-of-requires : tie.Need-hand-of-requires
 hand-of-requires c κs = tt
@@ -82,9 +83,9 @@ divider-of-requires c κs = tt
 returns-4 : tie.Need-returns-4
 returns-4 c =
     let s : List ℕ = c .before .before .before .before .before .before .before .before .before .before .before .before .before .before .before .before .before .before .before .before .args .s .now in
-    let counts : countdown.wellOf (countdownOf s) ≡ true = sym (c .before .before .before .before .before .before .before .before .before .before .before .before .well-formed2 .ensures ∙ ap countdown.wellOf (c .before .before .before .before .before .before .before .before .before .before .before .before .before .countdown-of .ensures)) ∙ turned-false (c .before .before .before .before .before .before .before .before .before .before .before .before .well-formed2 .result) (c .before .before .before .before .before .before .before .before .before .before .before .if3 .left) in
-    let bus : wellOf (busOf s) ≡ true = sym (c .before .before .before .before .before .before .before .before .before .before .before .before .before .before .before .well-formed .ensures ∙ ap wellOf (c .before .before .before .before .before .before .before .before .before .before .before .before .before .before .before .before .bus-of .ensures)) ∙ turned-false (c .before .before .before .before .before .before .before .before .before .before .before .before .before .before .before .well-formed .result) (c .before .before .before .before .before .before .before .before .before .before .before .before .before .before .if2 .left) in
-    let plain : plainOf s ≡ true = sym (c .before .before .before .before .before .before .before .before .before .before .before .before .before .before .before .before .before .before .plain .ensures) ∙ turned-false (c .before .before .before .before .before .before .before .before .before .before .before .before .before .before .before .before .before .before .plain .result) (c .before .before .before .before .before .before .before .before .before .before .before .before .before .before .before .before .before .if1 .left) in
+    let counts : countdown.wellOf (countdownOf s) ≡ true = sym (c .before .before .before .before .before .before .before .before .before .before .before .before .well-formed2 .ensures ∙ ap countdown.wellOf (c .before .before .before .before .before .before .before .before .before .before .before .before .before .countdown-of .ensures)) ∙ not-false (c .before .before .before .before .before .before .before .before .before .before .before .before .well-formed2 .result) (c .before .before .before .before .before .before .before .before .before .before .before .if3 .left) in
+    let bus : wellOf (busOf s) ≡ true = sym (c .before .before .before .before .before .before .before .before .before .before .before .before .before .before .before .well-formed .ensures ∙ ap wellOf (c .before .before .before .before .before .before .before .before .before .before .before .before .before .before .before .before .bus-of .ensures)) ∙ not-false (c .before .before .before .before .before .before .before .before .before .before .before .before .before .before .before .well-formed .result) (c .before .before .before .before .before .before .before .before .before .before .before .before .before .before .if2 .left) in
+    let plain : plainOf s ≡ true = sym (c .before .before .before .before .before .before .before .before .before .before .before .before .before .before .before .before .before .before .plain .ensures) ∙ not-false (c .before .before .before .before .before .before .before .before .before .before .before .before .before .before .before .before .before .before .plain .result) (c .before .before .before .before .before .before .before .before .before .before .before .before .before .before .before .before .before .if1 .left) in
     (λ i.
     (c .before .before .before .before .before .before .before .before .before .well-formed3 .ensures ∙ ap hand.wellOf (c .before .before .before .before .before .before .before .before .before .before .hand-of .ensures)) i
     && (c .before .before .before .before .before .before .before .well-formed4 .ensures ∙ ap alarm.wellOf (c .before .before .before .before .before .before .before .before .alarm-of .ensures)) i
