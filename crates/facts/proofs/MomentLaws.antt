@@ -16,7 +16,8 @@ use Rattle.bus.specs.Phase.{olderIn, closedBus}
 use Rattle.sd2068.specs.declared.clock.Clock.{Clock}
 use Rattle.sd2068.specs.Step.{stepOf}
 use Rattle.sd2068.specs.Pulse.{pulseOf, pulsesOf}
-use Rattle.sd2068.proofs.WellLaws.{Well, pulses-well, step-pulses}
+use Rattle.sd2068.proofs.WellLaws.{Well, pulses-well}
+use Rattle.sd2068.proofs.StepLaws.{step-pulses}
 use Rattle.facts.specs.Moments.{openOf, momentOf, endedOf, rangOf, zeroedOf, timedOutOf, pulseMoment}
 
 -- a pin pulse is whole only where it has just begun

@@ -35,7 +35,8 @@ use Rattle.sd2068.specs.Step.{eventOf, refusalOf, stepOf}
 use Rattle.sd2068.specs.Run.{after}
 use Rattle.hand.proofs.SpanLaws.{ticks-within}
 use Rattle.sd2068.proofs.GroupLaws.{pulses-hand}
-use Rattle.sd2068.proofs.WellLaws.{Well, parts, step-well, step-pulses}
+use Rattle.sd2068.proofs.WellLaws.{Well, parts, step-well}
+use Rattle.sd2068.proofs.StepLaws.{step-pulses}
 use Rattle.promises.specs.Marked.{writes, unlocks, fresh, sample, nextSecond, trimmedFresh, soon, around, tried, answers, opened, counting, cleared, intdf, Becomes, Lasts, Marked}
 
 -- the hand after an event of n pulses

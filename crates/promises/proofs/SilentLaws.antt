@@ -11,7 +11,8 @@ use Rattle.sd2068.specs.declared.clock.Clock.{Clock}
 use Rattle.sd2068.specs.Pulse.{pulseOf, pulsesOf}
 use Rattle.sd2068.specs.Reading.{controlAtOf, registerOf}
 use Rattle.sd2068.specs.Step.{stepOf}
-use Rattle.sd2068.proofs.WellLaws.{parts, step-pulses}
+use Rattle.sd2068.proofs.WellLaws.{parts}
+use Rattle.sd2068.proofs.StepLaws.{step-pulses}
 use Rattle.promises.specs.Registers.{bit, innerOf, State}
 use Rattle.promises.specs.Pulsed.{rings}
 use Rattle.promises.specs.Ring.{timeBefore, Begins, Matching, Silent}

@@ -13,4 +13,5 @@ pub mod StillLaws
 pub mod SettingLaws
 pub mod ReadBackLaws
 pub mod KeptLaws
+pub mod StepLaws
 pub mod Settled

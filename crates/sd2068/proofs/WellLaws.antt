@@ -1,12 +1,12 @@
 -- Every event keeps a well-formed state well formed, so after a good start no step is refused with 1. Assumes nothing.
-use mathlib.Core.Path.{_≡_, refl, sym, ap}
+use mathlib.Core.Path.{_≡_, refl, sym}
 use mathlib.Core.Bool.{Bool, true, false, cond, _&&_, true≢false}
 use mathlib.Core.List.{List, [], _∷_}
 use Prim.Native.Nat.{ℕ, zero, suc, _≤_}
 use native.Mathlib.Omega.{arith}
 use lib.Dec.{eqb, ltb}
 use lib.ListN.{length}
-use borrow.Author.Tests.{leb-true, le-leb, ne-eqb}
+use borrow.Author.Tests.{leb-true, le-leb}
 use Rattle.fields.proofs.FieldLaws.{and-left, and-right}
 use Rattle.fields.proofs.Picked.{picked}
 use Rattle.calendar.specs.declared.time.Time.{Time}
@@ -43,7 +43,7 @@ use Rattle.sd2068.specs.Writing.{storesOf, writeOf}
 use Rattle.sd2068.specs.Pulse.{pulseOf, pulsesOf}
 use Rattle.sd2068.specs.Transfer.{startedOf, stoppedOf, effectedBy, byteOf, renewsOf, renewedOf, sentBy, readOf}
 use Rattle.sd2068.specs.WellFormed.{latchWell, dividerWell, wellFormedOf}
-use Rattle.sd2068.specs.Step.{eventOf, quietOf, refusalOf, Told, toldOf, stepOf}
+use Rattle.sd2068.specs.Step.{eventOf, refusalOf, toldOf, stepOf}
 use Rattle.sd2068.specs.Run.{step, after}
 
 -- the parts of a state that is well formed
@@ -291,9 +291,3 @@ never-first s es kind byte count =
 pub step-taken : (c : Clock) → Well c → (kind byte count : ℕ) → faultOf kind byte count ≡ 0 → stepOf c kind byte count ≡ toldOf 0 (eventOf c kind byte count)
 unfolding stepOf refusalOf
 step-taken c w kind byte count good = simp (whole c w, good)
-
--- a step of n pulses leaves what n pulses leave; one of none is refused and leaves the state
-pub step-pulses : (c : Clock) → Well c → (n : ℕ) → stepOf c 5 0 n .state ≡ pulsesOf c n
-unfolding stepOf refusalOf eventOf times
-step-pulses c w zero = ap (λ (b : Bool). cond (eqb (cond b 3 1) 0) (eventOf c 5 0 0) (quietOf c) .clock) (whole c w)
-step-pulses c w (suc n) = ap (λ (t : Told). t .state) (step-taken c w 5 0 (suc n) (simp (ne-eqb (suc n) 0 (λ e. omega arith))))
