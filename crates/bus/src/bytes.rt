@@ -5,7 +5,7 @@ ghost use Rattle.bus.specs.Bytes.{deaf_of, addressed_of, pointed_of, heard_in, h
 use crate::phase::{Bus, Mode, Phase, Transfer, next};
 
 // What the byte asks of the rest of the chip: to latch the time, or to write it to a register.
-#[derive(Drop)]
+#[derive(Clone, Copy)]
 pub enum Effect {
     None,
     Latch,
@@ -13,7 +13,7 @@ pub enum Effect {
 }
 
 // The bus after the byte, whether it is acknowledged, and its effect.
-#[derive(Drop)]
+#[derive(Clone, Copy)]
 pub struct Heard {
     pub bus: Bus,
     pub ack: bool,

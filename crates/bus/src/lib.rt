@@ -1,4 +1,5 @@
 // The bus as the chip sees it: the pointer and the phase of the transfer.
+#![tactic(auto)]
 mod bytes;
 mod phase;
 mod reads;

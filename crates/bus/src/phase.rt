@@ -3,7 +3,7 @@ ghost use Rattle.std.specs.Prelude.{◌≡◌};
 ghost use Rattle.bus.specs.Phase.{next_of, started_of, aged_of, older_of, marked_of, well_of};
 
 // What an open transfer awaits or does. (rule 6.1)
-#[derive(Drop)]
+#[derive(Clone, Copy)]
 pub enum Mode {
     Address,
     Pointer,
@@ -13,19 +13,19 @@ pub enum Mode {
 }
 
 // What an open transfer carries: its age in pulses, and the mark of a read at 0Fh. (rule 6.1)
-#[derive(Drop)]
+#[derive(Clone, Copy)]
 pub struct Transfer {
     pub age: u32,
     pub marked: bool,
 }
 
-#[derive(Drop)]
+#[derive(Clone, Copy)]
 pub enum Phase {
     Closed,
     Open(Mode, Transfer),
 }
 
-#[derive(Drop)]
+#[derive(Clone, Copy)]
 pub struct Bus {
     pub pointer: u8,
     pub phase: Phase,

@@ -5,14 +5,14 @@ ghost use Rattle.bus.specs.Reads.{marks_of, moved_of, unread_of, read_in, read_o
 use crate::phase::{Bus, Mode, Phase, Transfer, next};
 
 // The register whose byte is sent, if any.
-#[derive(Drop)]
+#[derive(Clone, Copy)]
 pub enum Sent {
     Nothing,
     Register(u8),
 }
 
 // The bus after a read, and what it sends.
-#[derive(Drop)]
+#[derive(Clone, Copy)]
 pub struct Read {
     pub bus: Bus,
     pub sent: Sent,

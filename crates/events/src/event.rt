@@ -1,6 +1,6 @@
 // An event as a script has it. (rule 8.1)
 
-#[derive(Drop)]
+#[derive(Clone, Copy)]
 pub struct Event {
     pub kind: u8,
     pub byte: u8,

@@ -3,7 +3,7 @@ ghost use Rattle.std.specs.Prelude.{◌≡◌};
 ghost use Rattle.events.specs.Refusal.{number_of, fields_of, fault_of};
 
 // The rows of the refusals' table; State to Field are a step's, Section and Start a power-on's, the rest a file's alone.
-#[derive(Drop)]
+#[derive(Clone, Copy)]
 pub enum Refusal {
     None,
     State,

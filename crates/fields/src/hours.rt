@@ -4,7 +4,7 @@ ghost use Rattle.fields.specs.Hours.{mode_of, first_hour, codes, place_of, hour_
 
 use crate::digits::{byte, legal, pick, value};
 
-#[derive(Drop)]
+#[derive(Clone, Copy)]
 pub enum HourMode {
     Twelve,
     TwentyFour,

@@ -1,4 +1,5 @@
 // What a byte of the clock may hold and how it steps: BCD fields, hours in both modes, the time of day.
+#![tactic(auto)]
 mod digits;
 mod hours;
 mod times;

@@ -5,7 +5,7 @@ ghost use Rattle.fields.specs.Times.{legal_time_of, second_of, next_time_of, mid
 use crate::digits::{byte, legal, pick, step, value};
 use crate::hours::{HourMode, first_hour, hour_byte, hour_number, mode, next_hour};
 
-#[derive(Drop)]
+#[derive(Clone, Copy)]
 pub struct TimeOfDay {
     pub seconds: u8,
     pub minutes: u8,
