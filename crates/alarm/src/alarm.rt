@@ -6,7 +6,7 @@ use crate::matching::matches;
 use calendar::Time;
 use registers::{choose, clear, kept, less, with_byte};
 
-#[derive(Drop)]
+#[derive(Clone, Copy)]
 pub struct Alarm {
     pub at: Time,
     pub enable: u8,

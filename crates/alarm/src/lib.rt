@@ -1,4 +1,5 @@
 // The alarm: its fields, their enabling, its flag and its pin pulse.
+#![tactic(auto)]
 mod alarm;
 mod matching;
 

@@ -13,14 +13,14 @@ use fields::{HourMode, mode, time_of_day};
 const CENTURY: u64 = 3155760000;
 
 // The second number, or none for an illegal date or time of day. (rule 3.14)
-#[derive(Drop)]
+#[derive(Clone, Copy)]
 pub enum SecondNumber {
     Second(u64),
     None,
 }
 
 // The time, or none. (rules 3.15 and 3.16)
-#[derive(Drop)]
+#[derive(Clone, Copy)]
 pub enum TimeFound {
     At(Time),
     None,

@@ -7,7 +7,7 @@ use crate::weekdays::next_weekday;
 use dates::Date;
 use fields::{TimeOfDay, pick};
 
-#[derive(Drop)]
+#[derive(Clone, Copy)]
 pub struct Time {
     pub seconds: u8,
     pub minutes: u8,

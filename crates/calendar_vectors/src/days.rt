@@ -6,7 +6,7 @@ use calendar::{TimeFound, time_at};
 use fields::HourMode;
 
 // A digest, and the number drawn last.
-#[derive(Drop)]
+#[derive(Clone, Copy)]
 struct Run {
     digest: u32,
     drawn: u32,

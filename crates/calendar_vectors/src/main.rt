@@ -1,4 +1,5 @@
 // Prints digests of what the calendar answers, for comparison with figures made without it.
+#![tactic(auto)]
 mod days;
 mod digest;
 mod draws;

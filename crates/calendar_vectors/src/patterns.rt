@@ -20,14 +20,14 @@ const MONTH: [u8; 8] = [0x02, 0x02, 0x04, 0x12, 0x01, 0x09, 0x13, 0x00];
 const YEAR: [u8; 8] = [0x00, 0x99, 0x01, 0x04, 0x10, 0x96, 0x9a, 0x14];
 
 // A pattern, and the number drawn last: the seconds to go on.
-#[derive(Drop)]
+#[derive(Clone, Copy)]
 struct Pattern {
     time: Time,
     n: u32,
 }
 
 // What a line tells, and the number drawn last.
-#[derive(Drop)]
+#[derive(Clone, Copy)]
 struct Tally {
     digest: u32,
     numbered: u32,

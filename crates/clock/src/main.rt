@@ -1,4 +1,5 @@
 // Runs the script file on standard input: prints its lines, or only what it is refused for. (section 9)
+#![tactic(auto)]
 use libc::{STDIN_FILENO, STDOUT_FILENO};
 use script::{LONGEST_REFUSED, put_refused, run};
 

@@ -4,7 +4,7 @@ ghost use Rattle.control.specs.Control.{stored_of, well_of};
 
 use registers::{clear, kept};
 
-#[derive(Drop)]
+#[derive(Clone, Copy)]
 pub struct Control {
     pub im: bool,
     pub ints1: bool,

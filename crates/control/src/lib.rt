@@ -1,4 +1,5 @@
 // The lock, the control registers and the levels of the pin.
+#![tactic(auto)]
 mod bits;
 mod control;
 mod lock;

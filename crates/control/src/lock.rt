@@ -5,7 +5,7 @@ ghost use Rattle.control.specs.Lock.{open_of, written_of, well_of, ctr1_of, ctr2
 use crate::bits::{either, weight};
 use crate::control::Control;
 
-#[derive(Drop)]
+#[derive(Clone, Copy)]
 pub struct Lock {
     pub wrtc1: bool,
     pub wrtc2: bool,

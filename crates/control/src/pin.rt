@@ -2,7 +2,7 @@
 ghost use Rattle.std.specs.Prelude.{◌≡◌};
 ghost use Rattle.control.specs.Pin.{letter_of, driven_of, bell_of, low_half_of, output_of, frequency_of};
 
-#[derive(Drop)]
+#[derive(Clone, Copy)]
 pub enum Level {
     High,
     Low,

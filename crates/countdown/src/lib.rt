@@ -1,11 +1,12 @@
 // The countdown: count and reload, the prescaler, its flag and its pin pulse. (rules 5.6 to 5.9, 2.7, 2.8 and 8.2)
+#![tactic(auto)]
 ghost use Rattle.std.specs.Prelude.{◌≡◌};
 ghost use Rattle.countdown.specs.Countdown.{limit_of, down_of, counted_of, lessened_of, within_of, drifted_of, stored_of, well_of};
 
 use fields::pick;
 use registers::{choose, less, more, reached, turned, within};
 
-#[derive(Drop)]
+#[derive(Clone, Copy)]
 pub struct Countdown {
     pub count: u8,
     pub reload: u8,

@@ -1,11 +1,12 @@
 // Turns drawn second numbers into times and back, each by itself or all by one table, and prints a digest of all of it.
+#![tactic(auto)]
 use calendar::{SecondNumber, Time, TimeFound, time_at, time_in};
 use dates::first_days;
 use fields::HourMode;
 use libc::{STDIN_FILENO, STDOUT_FILENO};
 
 // Where one round ends: the number last drawn, and the digest.
-#[derive(Drop)]
+#[derive(Clone, Copy)]
 struct Round {
     drawn: u32,
     digest: u32,

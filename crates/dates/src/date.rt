@@ -7,7 +7,7 @@ use crate::months::last_day;
 use crate::table::{first_day, guess};
 use fields::{byte, legal, pick, step, value};
 
-#[derive(Drop)]
+#[derive(Clone, Copy)]
 pub struct Date {
     pub day: u8,
     pub month: u8,
@@ -15,14 +15,14 @@ pub struct Date {
 }
 
 // The day number, or none for an illegal date. (rule 3.13)
-#[derive(Drop)]
+#[derive(Clone, Copy)]
 pub enum DayNumber {
     Day(u64),
     None,
 }
 
 // The date, or none past the century. (rule 3.13)
-#[derive(Drop)]
+#[derive(Clone, Copy)]
 pub enum DateFound {
     On(Date),
     None,

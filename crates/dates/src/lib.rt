@@ -1,4 +1,5 @@
 // Months, the table of their first days, and dates with their day numbers.
+#![tactic(auto)]
 mod date;
 mod lent;
 mod months;

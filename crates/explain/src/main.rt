@@ -1,4 +1,5 @@
 // Prints what happened in the run of the script file on standard input, for whoever words or draws it. (section 11)
+#![tactic(auto)]
 mod lines;
 mod pen;
 mod pulses;

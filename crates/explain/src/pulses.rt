@@ -8,7 +8,7 @@ use std::num::wrapping_add_u32;
 const MOST_LINES: u32 = 64;
 
 // How often each has happened in an event, which has 65,535 pulses at most.
-#[derive(Drop)]
+#[derive(Clone, Copy)]
 struct Counts {
     seconds: u32,
     alarms: u32,

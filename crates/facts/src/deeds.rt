@@ -7,7 +7,7 @@ use events::fault;
 use sd2068::Clock;
 
 // A register's address stands beside what was done at it.
-#[derive(Drop)]
+#[derive(Clone, Copy)]
 pub enum Deed {
     Refused,
     Opened,

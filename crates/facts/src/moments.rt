@@ -5,7 +5,7 @@ ghost use Rattle.facts.specs.Moments.{open_of, moment_of};
 use bus::Phase;
 use sd2068::Clock;
 
-#[derive(Drop)]
+#[derive(Clone, Copy)]
 pub struct Moment {
     pub timeout: bool,
     pub zero: bool,

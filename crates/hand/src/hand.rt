@@ -6,7 +6,7 @@ use crate::trim::length;
 use calendar::Time;
 use registers::{clear, clear_time, kept, more, reached, turned, with_byte, within};
 
-#[derive(Drop)]
+#[derive(Clone, Copy)]
 pub struct Hand {
     pub time: Time,
     pub counter: u32,

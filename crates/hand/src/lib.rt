@@ -1,4 +1,5 @@
 // The hand of the clock: the time, the counter of the present second, the trim.
+#![tactic(auto)]
 mod hand;
 mod trim;
 

@@ -12,7 +12,7 @@ use events::{Refusal, fault};
 use sd2068::power_on;
 
 // A refusal, and the event's index where an event is refused.
-#[derive(Drop)]
+#[derive(Clone, Copy)]
 pub struct Fault {
     pub refusal: Refusal,
     pub index: usize,

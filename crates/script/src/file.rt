@@ -17,7 +17,7 @@ use state_bytes::{bytes_of, clock_of};
 use state_events::tell;
 
 // What a run hands back.
-#[derive(Drop)]
+#[derive(Clone, Copy)]
 pub struct Ran {
     pub refusal: Refusal,
     pub index: usize,

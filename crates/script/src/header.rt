@@ -10,7 +10,7 @@ pub(crate) fn word(low: u8, high: u8) -> u16
 }
 
 // How many events there are and where, and the same of the start bytes.
-#[derive(Drop)]
+#[derive(Clone, Copy)]
 pub struct Header {
     pub count: u16,
     pub events: u16,

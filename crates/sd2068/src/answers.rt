@@ -4,14 +4,14 @@ use control::Level;
 use events::{Answer, Refusal};
 
 // An event's state and answer.
-#[derive(Drop)]
+#[derive(Clone, Copy)]
 pub struct Answered {
     pub clock: Clock,
     pub answer: Answer,
 }
 
 // What a step hands back.
-#[derive(Drop)]
+#[derive(Clone, Copy)]
 pub struct Stepped {
     pub refusal: Refusal,
     pub clock: Clock,
@@ -20,7 +20,7 @@ pub struct Stepped {
 }
 
 // What a power-on hands back.
-#[derive(Drop)]
+#[derive(Clone, Copy)]
 pub struct Started {
     pub refusal: Refusal,
     pub clock: Clock,

@@ -6,7 +6,7 @@ use countdown::Countdown;
 use hand::Hand;
 
 // The arrays first: pulses took longer with them among the groups.
-#[derive(Drop)]
+#[derive(Clone, Copy)]
 pub struct Clock {
     pub ram: [u8; 12],
     pub latched: [u8; 7],

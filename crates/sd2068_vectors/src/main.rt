@@ -1,4 +1,5 @@
 // Runs the items on standard input, for comparison with lines made without the proved code.
+#![tactic(auto)]
 mod files;
 mod items;
 mod lines;

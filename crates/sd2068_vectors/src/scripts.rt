@@ -21,7 +21,7 @@ pub(crate) fn run_events(start: Clock) {
 }
 
 // The state, and whether it was shown.
-#[derive(Drop)]
+#[derive(Clone, Copy)]
 struct Ran {
     clock: Clock,
     shown: bool,
