@@ -7,20 +7,24 @@ use Rattle.dates.specs.Lent.{date_in_of}
 use Rattle.dates.proofs.LentLaws.{by_small}
 use borrow.Author.Rules.{rules}
 use Rattle.dates.proofs.lent.date_in.Goals as goal
-month : (c : tie.After-month-by) → c.month_by_lem.result < 1200
-month c =
-    let a = c.before.before.before.before.args in
-    let e = c.before.before.guess.result in
-    rw c.month_by_lem.ensures (by_small a.n e (get_or a.days.now e 0) (omega arith))
-
 pub offset_bounds-days-k : goal.offset_bounds-days-k
-offset_bounds-days-k c = omega (arith, month c)
+offset_bounds-days-k c =
+    let month : c.month_by-k.result < 1200 = let a = c.args in
+    let e = c.guess-e.result in
+    rw c.month_by-k.ensures (by_small a.n e (get_or a.days.now e 0) (omega arith)) in
+    omega (arith, month)
 
 pub bounds-days-k : goal.bounds-days-k
-bounds-days-k c = month c
+bounds-days-k c =
+    let a = c.args in
+    let e = c.guess-e.result in
+    rw c.month_by-k.ensures (by_small a.n e (get_or a.days.now e 0) (omega arith))
 
 pub dated-requires : goal.dated-requires
-dated-requires c = month c
+dated-requires c =
+    let a = c.args in
+    let e = c.guess-e.result in
+    rw c.month_by-k.ensures (by_small a.n e (get_or a.days.now e 0) (omega arith))
 
 pub returns-then-n-lt36525 : goal.returns-then-n-lt36525
 unfolding date_in_of

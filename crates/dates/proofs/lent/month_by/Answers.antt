@@ -1,9 +1,6 @@
 -- The comparison is the definition's. Assumes nothing.
 use borrow.Author.Tests.{le-leb, lt-leb}
 use Rattle.dates.proofs.lent.month_by.Goals as goal
-pub less_one-requires : goal.less_one-requires
-less_one-requires c = tt
-
 pub returns-then-first-n : goal.returns-then-first-n
 returns-then-first-n c = simp (le-leb _ _ c.if-first-n.true)
 

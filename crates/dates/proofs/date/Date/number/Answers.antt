@@ -3,20 +3,10 @@ use mathlib.Core.Path.{◌∙◌, sym}
 use Rattle.dates.specs.Dates.{day_of, day_number_of}
 use Rattle.dates.proofs.DateLaws.{LegalDate, legal_date, month_small}
 use Rattle.dates.proofs.date.Date.number.Goals as goal
-legal : (c : tie.Then1) → LegalDate c.before.before.args.self
-legal c = legal_date c.before.before.args.self (sym c.before.legal_date.ensures ∙ c.if1.true)
-
-pub legal_date-requires : goal.legal_date-requires
-legal_date-requires c = tt
-
-pub month_number-requires : goal.month_number-requires
-month_number-requires c = tt
-
 pub first_day-requires : goal.first_day-requires
-first_day-requires c = rw c.month_number.ensures (month_small c.args.self (legal c))
-
-pub day_from-requires : goal.day_from-requires
-day_from-requires c = tt
+first_day-requires c =
+    let legal : LegalDate c.args.self = legal_date c.args.self (sym c.legal_date.ensures ∙ c.if-legal_date.true) in
+    rw c.month_number.ensures (month_small c.args.self legal)
 
 pub returns-then-legal_date : goal.returns-then-legal_date
 unfolding day_of day_number_of
