@@ -1,0 +1,28 @@
+-- Each arm is a case of the definition. Assumes nothing.
+use borrow.Author.Tests.{ne_eqb}
+use Rattle.registers.specs.Fixed.{kept_time}
+use borrow.Author.Rules.{rules}
+use Rattle.registers.proofs.fixed.kept_time.Goals as goal
+pub returns-in-2 : goal.returns-in-2
+unfolding kept_time
+returns-in-2 c = simp c.in-2.is
+
+pub returns-in-3 : goal.returns-in-3
+unfolding kept_time
+returns-in-3 c = simp c.in-3.is
+
+pub returns-in-4 : goal.returns-in-4
+unfolding kept_time
+returns-in-4 c = simp c.in-4.is
+
+pub returns-in-5 : goal.returns-in-5
+unfolding kept_time
+returns-in-5 c = simp c.in-5.is
+
+pub returns-in-6 : goal.returns-in-6
+unfolding kept_time
+returns-in-6 c = simp c.in-6.is
+
+pub returns-in_default : goal.returns-in_default
+unfolding kept_time
+returns-in_default c = simp (ne_eqb _ _ c.in_default.in_default-own.rest.0.0.0.0.1, ne_eqb _ _ c.in_default.in_default-own.rest.0.0.0.1, ne_eqb _ _ c.in_default.in_default-own.rest.0.0.1, ne_eqb _ _ c.in_default.in_default-own.rest.0.1, ne_eqb _ _ c.in_default.in_default-own.rest.1)

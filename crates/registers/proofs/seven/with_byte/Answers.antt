@@ -1,0 +1,35 @@
+-- Each arm changes the one field whose place it is. Assumes nothing.
+use borrow.Author.Tests.{ne_eqb}
+use Rattle.registers.specs.Seven.{with_byte_of}
+use Rattle.registers.proofs.seven.with_byte.Goals as goal
+pub returns-in-0 : goal.returns-in-0
+unfolding with_byte_of
+returns-in-0 c = simp c.in-0.is
+
+pub returns-in-1 : goal.returns-in-1
+unfolding with_byte_of
+returns-in-1 c = simp c.in-1.is
+
+pub returns-in-2 : goal.returns-in-2
+unfolding with_byte_of
+returns-in-2 c = simp c.in-2.is
+
+pub returns-in-3 : goal.returns-in-3
+unfolding with_byte_of
+returns-in-3 c = simp c.in-3.is
+
+pub returns-in-4 : goal.returns-in-4
+unfolding with_byte_of
+returns-in-4 c = simp c.in-4.is
+
+pub returns-in-5 : goal.returns-in-5
+unfolding with_byte_of
+returns-in-5 c = simp c.in-5.is
+
+pub returns-in-6 : goal.returns-in-6
+unfolding with_byte_of
+returns-in-6 c = simp c.in-6.is
+
+pub returns-in_default : goal.returns-in_default
+unfolding with_byte_of
+returns-in_default c = simp (ne_eqb _ _ c.in_default.in_default-own.rest.0.0.0.0.0.0.1, ne_eqb _ _ c.in_default.in_default-own.rest.0.0.0.0.0.1, ne_eqb _ _ c.in_default.in_default-own.rest.0.0.0.0.1, ne_eqb _ _ c.in_default.in_default-own.rest.0.0.0.1, ne_eqb _ _ c.in_default.in_default-own.rest.0.0.1, ne_eqb _ _ c.in_default.in_default-own.rest.0.1, ne_eqb _ _ c.in_default.in_default-own.rest.1)
