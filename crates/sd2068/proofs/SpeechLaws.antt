@@ -96,8 +96,8 @@ module _ {unheard : Event → Bool} where
   pub walk : {s t : Stage unheard} {qs es : List Event} {outs : List (List ℕ)} → Spaced unheard qs es → Path unheard s qs outs t → (a : ℕ) (c : Clock) → s.Holds a c → a + pulses_in es < 16384 → Arrives t a c es outs
   unfolding after pulses_in reads_of
   walk {s} Spaced.done Path.here a c h l = record { holds = subst (λ (n : ℕ). s.Holds n c) (omega arith) h; reads = λ all. refl }
-  walk (Spaced.said {q} {qs} {es} none x) (Path.then {t} {out} {outs} f p) a c h l =
-      one_more out refl (omega (arith, none)) (λ all rest. f.says a c rest h) (walk x p a (taken_of c q).clock (f.goes a c h) (omega (arith, none, l)))
+  walk {s = s} {t = u} (Spaced.said {q} {qs} {es} none x) (Path.then {t} {out} {outs} f p) a c h l =
+      one_more out refl (omega (arith, none)) (λ all rest. f.says a c rest h) (walk {s = t} {t = u} x p a (taken_of c q).clock (f.goes a c h) (omega (arith, none, l)))
   walk {s} {t} (Spaced.waited {e} {qs} {es} good five x) p a c h l =
       let n = waited_pulses e good five in
       one_more [] (waited_state e good five c) (omega (arith, n)) (λ all rest. rw (waited_read e good five) refl)
