@@ -1,0 +1,15 @@
+-- By the answer's number. Assumes nothing.
+use borrow.Author.Tests.{ne_eqb}
+use borrow.Author.Rules.{rules}
+use Rattle.script.proofs.lines.answer_in.Goals as goal
+pub returns-in-0 : goal.returns-in-0
+returns-in-0 c = simp c.in-0.is
+
+pub returns-in-1 : goal.returns-in-1
+returns-in-1 c = simp c.in-1.is
+
+pub returns-in-2 : goal.returns-in-2
+returns-in-2 c = simp c.in-2.is
+
+pub returns-in_default : goal.returns-in_default
+returns-in_default c = simp (ne_eqb _ _ c.in_default.in_default-own.rest.0.0.1, ne_eqb _ _ c.in_default.in_default-own.rest.0.1, ne_eqb _ _ c.in_default.in_default-own.rest.1)
