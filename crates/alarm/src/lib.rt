@@ -1,5 +1,6 @@
 // The alarm: its fields, their enabling, its flag and its pin pulse.
 #![tactic(auto)]
+
 mod alarm;
 mod matching;
 

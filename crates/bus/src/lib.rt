@@ -1,5 +1,6 @@
 // The bus as the chip sees it: the pointer and the phase of the transfer.
 #![tactic(auto)]
+
 mod bytes;
 mod phase;
 mod reads;

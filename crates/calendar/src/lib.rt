@@ -1,5 +1,6 @@
 // The time that a clock keeps: one second on for any bytes, second numbers, any number of seconds on.
 #![tactic(auto)]
+
 mod lent;
 mod numbers;
 mod time;

@@ -1,5 +1,6 @@
 // The countdown: count and reload, the prescaler, its flag and its pin pulse. (rules 5.6 to 5.9, 2.7, 2.8 and 8.2)
 #![tactic(auto)]
+
 ghost use Rattle.std.specs.Prelude.{◌≡◌};
 ghost use Rattle.countdown.specs.Countdown.{limit_of, down_of, counted_of, lessened_of, within_of, drifted_of, stored_of, well_of};
 

@@ -1,5 +1,6 @@
 // Months, the table of their first days, and dates with their day numbers.
 #![tactic(auto)]
+
 mod date;
 mod lent;
 mod months;

@@ -1,5 +1,6 @@
 // An event, what it answers, and what it is refused for. (rules 8.1 and 8.3)
 #![tactic(auto)]
+
 mod answer;
 mod event;
 mod refusal;

@@ -1,5 +1,6 @@
 // What happened: what an event does to a state, and what one pulse does. (section 11)
 #![tactic(auto)]
+
 mod deeds;
 mod moments;
 

@@ -1,5 +1,6 @@
 // What a byte of the clock may hold and how it steps: BCD fields, hours in both modes, the time of day.
 #![tactic(auto)]
+
 mod digits;
 mod hours;
 mod times;

@@ -1,5 +1,6 @@
 // The hand of the clock: the time, the counter of the present second, the trim.
 #![tactic(auto)]
+
 mod hand;
 mod trim;
 

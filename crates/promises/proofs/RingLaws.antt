@@ -24,7 +24,6 @@ use Rattle.calendar.specs.Numbers.{since_of, number_of}
 use Rattle.calendar.proofs.MomentLaws.{number_moment, number_since}
 use Rattle.alarm.specs.declared.alarm.Alarm.{Alarm}
 use Rattle.alarm.specs.Matching.{off, matches_of}
-use Rattle.alarm.specs.Alarm as alarm
 use Rattle.alarm.specs.Alarm.{meets_of, rings_of}
 use Rattle.alarm.proofs.RingLaws as laws
 use Rattle.alarm.proofs.NumberLaws as numbers

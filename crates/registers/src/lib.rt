@@ -1,5 +1,6 @@
 // What the registers are made of: fixed bits, the seven bytes of a time by place, counters.
 #![tactic(auto)]
+
 mod counters;
 mod fixed;
 mod seven;

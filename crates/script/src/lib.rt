@@ -1,5 +1,6 @@
 // Script files: what they are refused for, what they list, and their run into a lent output. (section 9)
 #![tactic(auto)]
+
 mod checks;
 mod contents;
 mod event;

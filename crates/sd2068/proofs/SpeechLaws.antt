@@ -13,7 +13,7 @@ use Rattle.sd2068.specs.declared.answers.Answered.{Answered}
 use Rattle.sd2068.specs.Pulse.{pulses_of}
 use Rattle.sd2068.specs.Step.{event_of}
 use Rattle.sd2068.proofs.KindLaws.{refused_state, refused_pulses, refused_read, good_taken}
-use Rattle.sd2068.specs.Run.{taken_of, event, after, pulses_by, pulses_in, waits, spoken, read_by, reads_of}
+use Rattle.sd2068.specs.Run.{taken_of, event, after, pulses_by, pulses_in, spoken, read_by, reads_of}
 
 -- pulses make pulses and are no read
 module _ (e : Event) (good : fault_in e ≡ 0) (five : e.kind ≡ 5) where

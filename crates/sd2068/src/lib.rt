@@ -1,5 +1,6 @@
 // The SD2068: one state, and what power, pulses and the bus do to it.
 #![tactic(auto)]
+
 mod answers;
 mod clock;
 mod controls;

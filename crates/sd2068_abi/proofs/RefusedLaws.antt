@@ -17,7 +17,6 @@ use Rattle.sd2068.specs.Pin as pin
 use Rattle.sd2068.specs.Reading as reading
 use Rattle.sd2068.specs.Step as steps
 use Rattle.sd2068.specs.Step.{quiet_of, event_of, refusal_of}
-use Rattle.sd2068.specs.Run.{step}
 use Rattle.sd2068.specs.WellFormed.{well_formed_of}
 use Rattle.sd2068.specs.Rows.{Row1, StepDue}
 use Rattle.sd2068.proofs.ListedLaws.{well_listed}

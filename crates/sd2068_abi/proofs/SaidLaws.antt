@@ -7,7 +7,7 @@ use lib.ListN.{get_or}
 use Rattle.events.specs.declared.event.Event.{Event}
 use Rattle.sd2068.specs.declared.clock.Clock.{Clock}
 use Rattle.sd2068.specs.Step as steps
-use Rattle.sd2068.specs.Run.{told_by, step, after, read_by, reads_of}
+use Rattle.sd2068.specs.Run.{told_by, step, read_by, reads_of}
 use Rattle.sd2068.specs.WellFormed.{well_formed_of}
 use Rattle.sd2068.proofs.WellLaws.{step_keeps}
 use Rattle.state_bytes.specs.Decoded.{clock_of}

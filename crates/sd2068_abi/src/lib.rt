@@ -1,5 +1,6 @@
 // The boundary for boards in C and Rust: include/tallowreed.h says it for C. (rules 10.1 to 10.8)
 #![tactic(auto)]
+
 ghost use Rattle.std.specs.Prelude.{◌≡◌};
 ghost use Rattle.state_events.specs.Event.{lent};
 ghost use Rattle.sd2068_abi.specs.Abi.{lent_run, power_of, step_of, seen_of, pin_of, register_of, run_of};

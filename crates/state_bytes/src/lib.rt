@@ -1,5 +1,6 @@
 // A state as 61 bytes: both ways, and what it is looked at for. (rules 10.1 to 10.3)
 #![tactic(auto)]
+
 mod decoded;
 mod encoded;
 mod judged;

@@ -1,5 +1,6 @@
 // What changes the bytes of a state: an event, and a whole state written over them. (rules 8.1 and 10.5)
 #![tactic(auto)]
+
 mod event;
 mod lent;
 mod put;

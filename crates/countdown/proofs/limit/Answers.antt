@@ -1,6 +1,7 @@
 -- Each arm is a case of the definition. Assumes nothing.
 use borrow.Author.Tests.{ne_eqb}
 use Rattle.countdown.proofs.limit.Goals as goal
+
 pub returns-in-0 : goal.returns-in-0
 returns-in-0 c = simp c.in-0.is
 

@@ -1,6 +1,7 @@
 -- A state that is judged well is told with its pin, and any other gets 1. Assumes nothing.
 use Rattle.sd2068_abi.specs.Abi.{seen_of}
 use Rattle.sd2068_abi.proofs.seen.Goals as goal
+
 pub returns-then-well_formed-plain : goal.returns-then-well_formed-plain
 unfolding seen_of
 returns-then-well_formed-plain c =

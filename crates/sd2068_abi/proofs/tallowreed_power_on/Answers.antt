@@ -3,8 +3,8 @@ use mathlib.Core.Path.{◌∙◌}
 use mathlib.Core.List.{List}
 use Prim.Native.Nat.{ℕ}
 use Rattle.sd2068_abi.proofs.AbiLaws.{put_full, power_told, power_other}
-use borrow.Author.Rules.{rules}
 use Rattle.sd2068_abi.proofs.tallowreed_power_on.Goals as goal
+
 pub returns-then-state-ne61 : goal.returns-then-state-ne61
 returns-then-state-ne61 c = power_other _ _ c.if-state-ne61.true
 

@@ -5,8 +5,8 @@ use Prim.Native.Nat.{ℕ}
 use Rattle.script.specs.declared.file.Ran.{Ran}
 use Rattle.sd2068_abi.specs.Abi.{ran_of}
 use Rattle.sd2068_abi.proofs.AbiLaws.{put_full, run_told, run_other}
-use borrow.Author.Rules.{rules}
 use Rattle.sd2068_abi.proofs.tallowreed_run.Goals as goal
+
 pub returns-then-state-ne61 : goal.returns-then-state-ne61
 returns-then-state-ne61 c = run_other _ _ _ _ c.if-state-ne61.true c.ran.ensures
 

@@ -1,5 +1,4 @@
 -- Bytes that are no state's stay; else the event is said on them. Assumes nothing.
-use borrow.Author.Tests.{not-true, not-false}
 use Rattle.sd2068_abi.proofs.AbiLaws.{other_length, no_other, step_refused, step_told}
 use Rattle.state_bytes.specs.Shapes.{Bytes}
 use Rattle.state_bytes.specs.Decoded.{is_state}
@@ -8,8 +7,8 @@ use Prim.Native.Nat.{ℕ}
 use mathlib.Core.List.{List}
 use mathlib.Core.Bool.{true}
 use mathlib.Core.Path.{◌≡◌, sym, ◌∙◌}
-use borrow.Author.Rules.{rules}
 use Rattle.sd2068_abi.proofs.tallowreed_step.Goals as goal
+
 pub returns-then-state-ne61 : goal.returns-then-state-ne61
 returns-then-state-ne61 c = step_refused _ _ _ _ (other_length _ c.if-state-ne61.true)
 

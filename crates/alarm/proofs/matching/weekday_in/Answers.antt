@@ -5,6 +5,7 @@ use borrow.Author.Tests.{le-ltb}
 use native.Mathlib.Omega.{arith}
 use Rattle.alarm.specs.Matching.{weekday_in}
 use Rattle.alarm.proofs.matching.weekday_in.Goals as goal
+
 -- a number from k on that is not k is past it
 past : (k w : ℕ) → k ≤ w → (w ≡ k → ⊥) → k + 1 ≤ w
 past k w h n = omega arith

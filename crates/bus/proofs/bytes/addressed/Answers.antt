@@ -1,6 +1,7 @@
 -- Each arm is a case of the definition. Assumes nothing.
 use borrow.Author.Tests.{ne_eqb}
 use Rattle.bus.proofs.bytes.addressed.Goals as goal
+
 pub deaf-requires : goal.deaf-requires
 deaf-requires c = tt
 

@@ -1,6 +1,6 @@
 -- Each mode is a case of the definition. Assumes nothing.
-use borrow.Author.Rules.{rules}
 use Rattle.bus.proofs.bytes.heard_in.Goals as goal
+
 pub addressed-requires : goal.addressed-requires
 addressed-requires c = tt
 

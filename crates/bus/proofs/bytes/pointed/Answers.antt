@@ -1,6 +1,7 @@
 -- The range is the definition's test. Assumes nothing.
 use borrow.Author.Tests.{lt-ltb, le-ltb}
 use Rattle.bus.proofs.bytes.pointed.Goals as goal
+
 pub deaf-requires : goal.deaf-requires
 deaf-requires c = tt
 

@@ -1,5 +1,6 @@
 -- The branch is the definition's. Assumes nothing.
 use Rattle.bus.proofs.reads.moved.Goals as goal
+
 pub marks-requires : goal.marks-requires
 marks-requires c = tt
 

@@ -1,6 +1,6 @@
 -- Each mode is a case of the definition. Assumes nothing.
-use borrow.Author.Rules.{rules}
 use Rattle.bus.proofs.reads.read_in.Goals as goal
+
 pub unread-requires : goal.unread-requires
 unread-requires c = tt
 

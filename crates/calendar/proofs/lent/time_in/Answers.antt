@@ -2,6 +2,7 @@
 use mathlib.Core.Path.{◌∙◌, ap}
 use Rattle.calendar.specs.Lent.{time_on, time_in_of}
 use Rattle.calendar.proofs.lent.time_in.Goals as goal
+
 pub returns : goal.returns
 unfolding time_in_of
 returns c =

@@ -3,6 +3,7 @@ use mathlib.Core.Path.{◌∙◌, ap}
 use Rattle.calendar.specs.Lent.{time_on}
 use Rattle.calendar.proofs.LentLaws.{time_on_lem}
 use Rattle.calendar.proofs.numbers.time_at.Goals as goal
+
 pub returns : goal.returns
 returns c =
     let a = c.args in

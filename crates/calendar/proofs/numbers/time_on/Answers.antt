@@ -4,8 +4,8 @@ use mathlib.Core.Option.{some}
 use Rattle.dates.specs.Dates.{date_found}
 use Rattle.calendar.specs.Numbers.{joined}
 use Rattle.calendar.specs.Lent.{time_on}
-use borrow.Author.Rules.{rules}
 use Rattle.calendar.proofs.numbers.time_on.Goals as goal
+
 pub returns : goal.returns
 returns c =
     let a = c.args in

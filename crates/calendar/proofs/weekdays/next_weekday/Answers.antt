@@ -1,7 +1,7 @@
 -- Each way is a case of the test. Assumes nothing.
 use borrow.Author.Tests.{lt-ltb, le-ltb}
-use borrow.Author.Rules.{rules}
 use Rattle.calendar.proofs.weekdays.next_weekday.Goals as goal
+
 pub returns-then-w-lt6 : goal.returns-then-w-lt6
 returns-then-w-lt6 c = simp (lt-ltb _ _ c.if-w-lt6.true)
 

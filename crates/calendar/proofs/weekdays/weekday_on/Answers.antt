@@ -2,8 +2,8 @@
 use native.Mathlib.Nat.{add-mod-mod}
 use borrow.Author.Tests.{lt-ltb, le-ltb, eq-eqb, ne_eqb}
 use Rattle.calendar.specs.Weekdays.{weekday_on_of}
-use borrow.Author.Rules.{rules}
 use Rattle.calendar.proofs.weekdays.weekday_on.Goals as goal
+
 pub returns-then-days-eq0 : goal.returns-then-days-eq0
 unfolding weekday_on_of
 returns-then-days-eq0 c = simp (eq-eqb _ _ c.if-days-eq0.true)

@@ -1,7 +1,7 @@
 -- The branch is the definition's. Assumes nothing.
 use Rattle.control.specs.Pin.{bell_of}
-use borrow.Author.Rules.{rules}
 use Rattle.control.proofs.pin.bell.Goals as goal
+
 pub returns-then-im : goal.returns-then-im
 unfolding bell_of
 returns-then-im c = simp (c.if-im.true, c.driven.ensures)

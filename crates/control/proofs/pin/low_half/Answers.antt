@@ -2,6 +2,7 @@
 use borrow.Author.Tests.{ne_eqb}
 use Rattle.control.specs.Pin.{period_of, low_half_of}
 use Rattle.control.proofs.pin.low_half.Goals as goal
+
 pub returns-in-2 : goal.returns-in-2
 unfolding low_half_of period_of
 returns-in-2 c = simp c.in-2.is

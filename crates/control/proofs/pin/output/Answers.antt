@@ -1,8 +1,8 @@
 -- Each arm is a case of the definition. Assumes nothing.
 use borrow.Author.Tests.{ne_eqb}
 use Rattle.control.specs.Pin.{output_of}
-use borrow.Author.Rules.{rules}
 use Rattle.control.proofs.pin.output.Goals as goal
+
 pub returns-in-0 : goal.returns-in-0
 unfolding output_of
 returns-in-0 c = simp c.in-0.is

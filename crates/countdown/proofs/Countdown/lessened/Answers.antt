@@ -1,5 +1,5 @@
 -- The pin pulse alone moves. Assumes nothing.
-use borrow.Author.Rules.{rules}
 use Rattle.countdown.proofs.Countdown.lessened.Goals as goal
+
 pub returns : goal.returns
 returns c = simp c.less.ensures

@@ -2,6 +2,7 @@
 use borrow.Author.Tests.{ne_eqb}
 use Rattle.countdown.specs.Countdown.{stored_of}
 use Rattle.countdown.proofs.Countdown.stored.Goals as goal
+
 pub returns-in-15 : goal.returns-in-15
 unfolding stored_of
 returns-in-15 c = simp c.in-15.is

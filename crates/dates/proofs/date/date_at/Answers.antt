@@ -5,8 +5,8 @@ use borrow.Author.Tests.{le-ltb}
 use Rattle.dates.proofs.MonthLaws.{guess_month, guess_before}
 use Rattle.dates.proofs.LentLaws.{dated_at}
 use Rattle.dates.specs.Dates.{date_at_of}
-use borrow.Author.Rules.{rules}
 use Rattle.dates.proofs.date.date_at.Goals as goal
+
 pub returns-then-first-n : goal.returns-then-first-n
 returns-then-first-n c =
     let n = c.args.n in

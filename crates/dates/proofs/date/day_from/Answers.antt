@@ -1,5 +1,5 @@
 -- The sum is the definition's. Assumes nothing.
-use borrow.Author.Rules.{rules}
 use Rattle.dates.proofs.date.day_from.Goals as goal
+
 pub returns : goal.returns
 returns c = simp (c.less_one.ensures, c.value.ensures)

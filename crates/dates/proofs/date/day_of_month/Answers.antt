@@ -1,7 +1,7 @@
 -- The three cases are those of the definition. Assumes nothing.
 use native.Mathlib.Omega.{arith}
-use borrow.Author.Rules.{rules}
 use Rattle.dates.proofs.date.day_of_month.Goals as goal
+
 pub returns-then-n-a : goal.returns-then-n-a
 returns-then-n-a c = omega arith
 

@@ -5,8 +5,8 @@ use lib.ListN.{get_or}
 use borrow.Author.Tests.{lt-ltb, le-ltb}
 use Rattle.dates.specs.Lent.{date_in_of}
 use Rattle.dates.proofs.LentLaws.{by_small}
-use borrow.Author.Rules.{rules}
 use Rattle.dates.proofs.lent.date_in.Goals as goal
+
 pub offset_bounds-days-k : goal.offset_bounds-days-k
 offset_bounds-days-k c =
     let month : c.month_by-k.result < 1200 = let a = c.args in

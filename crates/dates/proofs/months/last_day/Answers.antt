@@ -1,8 +1,8 @@
 -- Each arm is a case of the definition, in its order. Assumes nothing.
 use borrow.Author.Tests.{ne_eqb}
 use Rattle.dates.specs.Months.{last_day_of}
-use borrow.Author.Rules.{rules}
 use Rattle.dates.proofs.months.last_day.Goals as goal
+
 pub returns-in-2 : goal.returns-in-2
 unfolding last_day_of
 returns-in-2 c = simp (c.in-2.is, c.pick.ensures, c.leap.ensures)

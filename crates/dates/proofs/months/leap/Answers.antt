@@ -1,7 +1,7 @@
 -- The two tests are the definition's. Assumes nothing.
 use Rattle.dates.specs.Months.{leap_of}
-use borrow.Author.Rules.{rules}
 use Rattle.dates.proofs.months.leap.Goals as goal
+
 pub returns : goal.returns
 unfolding leap_of
 returns c = simp (c.legal.ensures, c.value-number.ensures)

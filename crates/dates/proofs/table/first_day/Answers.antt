@@ -1,6 +1,7 @@
 -- The decades are read by three functions. Assumes nothing.
 use native.Mathlib.Omega.{arith}
 use Rattle.dates.proofs.table.first_day.Goals as goal
+
 pub first_decades-requires : goal.first_decades-requires
 first_decades-requires c = c.in-0.is
 

@@ -1,7 +1,7 @@
 -- The guess is below 1,200 or capped there. Assumes nothing.
 use native.Mathlib.Omega.{arith}
-use borrow.Author.Rules.{rules}
 use Rattle.dates.proofs.table.guess.Goals as goal
+
 pub returns-then-e-lt1200 : goal.returns-then-e-lt1200
 returns-then-e-lt1200 c = omega arith
 

@@ -4,8 +4,8 @@ use Prim.Native.Nat.{◌+◌, ◌%◌, ◌<◌}
 use native.Mathlib.Omega.{arith}
 use Rattle.dates.specs.Months.{leap_of, last_day_of, days_of, first_day_of}
 use Rattle.dates.proofs.MonthTests.{table_rule}
-use borrow.Author.Rules.{rules}
 use Rattle.dates.proofs.table.middle_decades.Goals as goal
+
 pub returns-in-4 : goal.returns-in-4
 unfolding leap_of last_day_of days_of
 returns-in-4 c =

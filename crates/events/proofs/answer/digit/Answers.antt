@@ -1,7 +1,7 @@
 -- Each branch is a case of the definition. Assumes nothing.
 use borrow.Author.Tests.{lt-ltb, le-ltb}
-use borrow.Author.Rules.{rules}
 use Rattle.events.proofs.answer.digit.Goals as goal
+
 pub returns-then-d-lt10 : goal.returns-then-d-lt10
 returns-then-d-lt10 c = simp (lt-ltb _ _ c.if-d-lt10.true)
 

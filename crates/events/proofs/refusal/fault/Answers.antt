@@ -2,6 +2,7 @@
 use mathlib.Core.Path.{sym, ◌∙◌}
 use borrow.Author.Tests.{lt-ltb, le-ltb}
 use Rattle.events.proofs.refusal.fault.Goals as goal
+
 pub fields-requires : goal.fields-requires
 fields-requires c = tt
 

@@ -1,6 +1,7 @@
 -- Each arm is a case of the definition. Assumes nothing.
 use borrow.Author.Tests.{ne_eqb}
 use Rattle.events.proofs.refusal.fields.Goals as goal
+
 pub returns-in-2 : goal.returns-in-2
 returns-in-2 c = simp c.in-2.is
 

@@ -1,6 +1,7 @@
 -- Each arm is a case of the definition. Assumes nothing.
 use borrow.Author.Tests.{ne_eqb}
 use Rattle.facts.proofs.deeds.address_deed.Goals as goal
+
 pub returns-in-100 : goal.returns-in-100
 returns-in-100 c = simp c.in-100.is
 

@@ -4,6 +4,7 @@ use borrow.Author.Tests.{ne_eqb}
 use Rattle.sd2068.specs.Step.{refusal_of}
 use Rattle.facts.specs.Deeds.{deed_of}
 use Rattle.facts.proofs.deeds.deed_of.Goals as goal
+
 pub returns-then-not-well_formed : goal.returns-then-not-well_formed
 unfolding deed_of refusal_of
 returns-then-not-well_formed c = simp (sym c.well_formed-2.ensures ∙ c.if-not-well_formed.true)

@@ -2,6 +2,7 @@
 use borrow.Author.Tests.{ne_eqb}
 use Rattle.facts.specs.Deeds.{event_deed}
 use Rattle.facts.proofs.deeds.event_deed.Goals as goal
+
 pub returns-in-0 : goal.returns-in-0
 unfolding event_deed
 returns-in-0 c = simp (c.start_deed.ensures, c.in-0.is)

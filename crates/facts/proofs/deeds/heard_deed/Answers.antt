@@ -1,6 +1,6 @@
 -- Each mode is a case of the definition. Assumes nothing.
-use borrow.Author.Rules.{rules}
 use Rattle.facts.proofs.deeds.heard_deed.Goals as goal
+
 pub returns-in-Address : goal.returns-in-Address
 returns-in-Address c = simp (c.address_deed.ensures, c.in-Address.is)
 

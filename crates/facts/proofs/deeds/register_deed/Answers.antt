@@ -1,6 +1,7 @@
 -- The range and the next address are the definition's tests. Assumes nothing.
 use borrow.Author.Tests.{lt-ltb, le-ltb, ne_eqb}
 use Rattle.facts.proofs.deeds.register_deed.Goals as goal
+
 pub returns-in-0-to-6 : goal.returns-in-0-to-6
 returns-in-0-to-6 c = simp (lt-ltb _ _ c.in-0-to-6.if-a-lt7-own.true)
 

@@ -1,6 +1,6 @@
 -- The code computes what the definition says. Assumes nothing.
 use mathlib.Core.Path.{refl}
-use borrow.Author.Rules.{rules}
 use Rattle.fields.proofs.digits.byte.Goals as goal
+
 pub returns : goal.returns
 returns c = refl

@@ -1,5 +1,6 @@
 -- The code computes what the definition says. Assumes nothing.
 use mathlib.Core.Path.{refl}
 use Rattle.fields.proofs.digits.legal.Goals as goal
+
 pub returns : goal.returns
 returns c = refl

@@ -1,6 +1,6 @@
 -- The arithmetic is the table's, by the test over every byte. Assumes nothing.
 use Rattle.fields.proofs.HourCodes.{byte12_right}
-use borrow.Author.Rules.{rules}
 use Rattle.fields.proofs.hours.byte12.Goals as goal
+
 pub returns : goal.returns
 returns c = simp (c.pick.ensures, c.byte.ensures) (byte12_right c.args.n c.ranges.n.fits)

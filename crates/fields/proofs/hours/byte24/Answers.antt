@@ -1,6 +1,6 @@
 -- The arithmetic is the table's, by the test over every byte. Assumes nothing.
 use Rattle.fields.proofs.HourCodes.{byte24_right}
-use borrow.Author.Rules.{rules}
 use Rattle.fields.proofs.hours.byte24.Goals as goal
+
 pub returns : goal.returns
 returns c = simp (c.pick.ensures, c.byte.ensures) (byte24_right c.args.n c.ranges.n.fits)

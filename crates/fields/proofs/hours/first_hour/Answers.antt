@@ -1,6 +1,6 @@
 -- Each arm is one of the definition's cases. Assumes nothing.
-use borrow.Author.Rules.{rules}
 use Rattle.fields.proofs.hours.first_hour.Goals as goal
+
 pub returns-in-Twelve : goal.returns-in-Twelve
 returns-in-Twelve c = simp c.in-Twelve.is
 

@@ -1,6 +1,6 @@
 -- Each arm is one column of the table. Assumes nothing.
-use borrow.Author.Rules.{rules}
 use Rattle.fields.proofs.hours.hour_byte.Goals as goal
+
 pub returns-in-Twelve : goal.returns-in-Twelve
 returns-in-Twelve c = simp (c.byte12.ensures, c.in-Twelve.is)
 

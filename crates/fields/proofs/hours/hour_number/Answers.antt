@@ -1,8 +1,8 @@
 -- Each arm is one column of the table, and the mode is the one that the byte tells. Assumes nothing.
 use Rattle.fields.specs.Hours.{hour_number_of}
 use mathlib.Core.Path.{◌∙◌, sym}
-use borrow.Author.Rules.{rules}
 use Rattle.fields.proofs.hours.hour_number.Goals as goal
+
 pub returns-in-Twelve : goal.returns-in-Twelve
 unfolding hour_number_of
 returns-in-Twelve c = simp (c.number12.ensures, sym c.mode.ensures ∙ c.in-Twelve.is)

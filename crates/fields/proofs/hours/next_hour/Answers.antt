@@ -2,8 +2,8 @@
 use Rattle.fields.specs.Hours.{next_hour_of}
 use native.Mathlib.Omega.{arith}
 use Rattle.fields.proofs.HourCodes.{hour_small}
-use borrow.Author.Rules.{rules}
 use Rattle.fields.proofs.hours.next_hour.Goals as goal
+
 pub overflow_add-hour_number : goal.overflow_add-hour_number
 overflow_add-hour_number c = rw c.hour_number.ensures (omega (arith, hour_small c.args.h))
 

@@ -4,8 +4,8 @@ use native.Mathlib.Omega.{arith}
 use borrow.Author.Tests.{lt-ltb, le-ltb}
 use Rattle.hand.specs.Trim.{change_of}
 use Rattle.hand.proofs.TrimTests.{added, taken, taken_fits}
-use borrow.Author.Rules.{rules}
 use Rattle.hand.proofs.trim.change.Goals as goal
+
 pub overflow_sub-result-in_default-2 : goal.overflow_sub-result-in_default-2
 overflow_sub-result-in_default-2 c = taken_fits (c.args.trim % 128) (omega arith)
 

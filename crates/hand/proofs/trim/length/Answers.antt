@@ -4,8 +4,8 @@ use Prim.Native.Nat.{◌%◌}
 use native.Mathlib.Omega.{arith}
 use Rattle.hand.specs.Trim.{length_of}
 use Rattle.hand.proofs.TrimTests.{sum_fits, sum_positive, sum_narrows, sum_same}
-use borrow.Author.Rules.{rules}
 use Rattle.hand.proofs.trim.length.Goals as goal
+
 pub overflow_add-result : goal.overflow_add-result
 overflow_add-result c = rw c.change.ensures (sum_fits (c.args.trim % 128) (omega arith))
 

@@ -1,7 +1,7 @@
 -- The sum is computed in 64 bits and taken where it fits 32. Assumes nothing.
 use borrow.Author.Tests.{lt-ltb, le-ltb}
-use borrow.Author.Rules.{rules}
 use Rattle.registers.proofs.counters.more.Goals as goal
+
 pub returns-then-x-n-lt4294967296 : goal.returns-then-x-n-lt4294967296
 returns-then-x-n-lt4294967296 c = simp (lt-ltb _ _ c.if-x-n-lt4294967296.true)
 

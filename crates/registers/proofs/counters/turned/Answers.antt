@@ -1,7 +1,7 @@
 -- The test is the definition's. Assumes nothing.
 use borrow.Author.Tests.{le-leb, lt-leb}
-use borrow.Author.Rules.{rules}
 use Rattle.registers.proofs.counters.turned.Goals as goal
+
 pub returns-then-limit-x : goal.returns-then-limit-x
 returns-then-limit-x c = simp (le-leb _ _ c.if-limit-x.true)
 

@@ -2,8 +2,8 @@
 use Prim.Native.Nat.{◌-◌}
 use native.Mathlib.Omega.{arith}
 use borrow.Author.Tests.{lt-ltb, le-ltb}
-use borrow.Author.Rules.{rules}
 use Rattle.registers.proofs.counters.within.Goals as goal
+
 pub returns-then-room-n : goal.returns-then-room-n
 returns-then-room-n c =
     let a = c.args in

@@ -1,8 +1,8 @@
 -- Each range of addresses has its own part of the definition. Assumes nothing.
 use borrow.Author.Tests.{lt-ltb, le-ltb}
 use Rattle.registers.specs.Fixed.{kept_of}
-use borrow.Author.Rules.{rules}
 use Rattle.registers.proofs.fixed.kept.Goals as goal
+
 pub returns-in-0-to-6 : goal.returns-in-0-to-6
 unfolding kept_of
 returns-in-0-to-6 c = simp (lt-ltb _ _ c.in-0-to-6.if-a-lt7-own.true, c.kept_time.ensures)

@@ -2,6 +2,7 @@
 use borrow.Author.Tests.{ne_eqb}
 use Rattle.registers.specs.Fixed.{kept_alarm}
 use Rattle.registers.proofs.fixed.kept_alarm.Goals as goal
+
 pub returns-in-9 : goal.returns-in-9
 unfolding kept_alarm
 returns-in-9 c = simp c.in-9.is

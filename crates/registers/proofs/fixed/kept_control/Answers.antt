@@ -1,8 +1,8 @@
 -- Each arm is a case of the definition. Assumes nothing.
 use borrow.Author.Tests.{ne_eqb}
 use Rattle.registers.specs.Fixed.{kept_control}
-use borrow.Author.Rules.{rules}
 use Rattle.registers.proofs.fixed.kept_control.Goals as goal
+
 pub returns-in-15 : goal.returns-in-15
 unfolding kept_control
 returns-in-15 c = simp c.in-15.is

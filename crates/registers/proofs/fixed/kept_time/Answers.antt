@@ -1,8 +1,8 @@
 -- Each arm is a case of the definition. Assumes nothing.
 use borrow.Author.Tests.{ne_eqb}
 use Rattle.registers.specs.Fixed.{kept_time}
-use borrow.Author.Rules.{rules}
 use Rattle.registers.proofs.fixed.kept_time.Goals as goal
+
 pub returns-in-2 : goal.returns-in-2
 unfolding kept_time
 returns-in-2 c = simp c.in-2.is

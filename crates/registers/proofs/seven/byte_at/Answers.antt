@@ -2,6 +2,7 @@
 use borrow.Author.Tests.{ne_eqb}
 use Rattle.registers.specs.Seven.{byte_at_of}
 use Rattle.registers.proofs.seven.byte_at.Goals as goal
+
 pub returns-in-0 : goal.returns-in-0
 unfolding byte_at_of
 returns-in-0 c = simp c.in-0.is

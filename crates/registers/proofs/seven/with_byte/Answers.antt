@@ -2,6 +2,7 @@
 use borrow.Author.Tests.{ne_eqb}
 use Rattle.registers.specs.Seven.{with_byte_of}
 use Rattle.registers.proofs.seven.with_byte.Goals as goal
+
 pub returns-in-0 : goal.returns-in-0
 unfolding with_byte_of
 returns-in-0 c = simp c.in-0.is

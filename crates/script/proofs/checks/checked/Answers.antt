@@ -2,8 +2,8 @@
 use mathlib.Core.Path.{sym, ◌∙◌}
 use borrow.Author.Tests.{lt-ltb, le-ltb}
 use Rattle.script.specs.Checks.{checked_of}
-use borrow.Author.Rules.{rules}
 use Rattle.script.proofs.checks.checked.Goals as goal
+
 pub returns-then-length-gt16384 : goal.returns-then-length-gt16384
 unfolding checked_of
 returns-then-length-gt16384 c = simp (c.whole.ensures, lt-ltb _ _ c.if-length-gt16384.true)

@@ -1,13 +1,9 @@
 -- What is still to be searched gives what the whole gives. Assumes nothing.
-use mathlib.Core.Path.{◌≡◌, refl, sym, ◌∙◌}
+use mathlib.Core.Path.{◌≡◌}
 use Prim.Native.Nat.{◌+◌, ◌*◌, ◌≤◌}
-use native.Mathlib.Omega.{arith}
 use lib.ListN.{length}
-use borrow.Author.Rules.{rules}
-use Rattle.events.specs.Refusal.{number_of}
 use Rattle.script.specs.Event.{events_from, events_in}
 use Rattle.script.specs.Checks.{first_of}
-use Rattle.script.proofs.SearchLaws.{first_good, first_bad, first_end}
 use Rattle.script.proofs.checks.first_fault.Given as goal
 
 abbrev pub invariant-loop-left : goal.invariant-loop-left

@@ -5,6 +5,7 @@ use Rattle.script.proofs.PartLaws.{ends}
 use Rattle.script.proofs.FileLaws.{Searched, start_bad, searched, event_bad, room_bad, room_good}
 use borrow.Author.Rules.{rules}
 use Rattle.script.proofs.checks.placed.Goals as goal
+
 pub slice_bounds-power_on-end : goal.slice_bounds-power_on-end
 slice_bounds-power_on-end c = let e = (ends _ _ c.requires).start in search rules
 

@@ -8,8 +8,8 @@ use Rattle.events.specs.declared.event.Event.{Event}
 use Rattle.script.specs.Header.{word_of}
 use Rattle.script.specs.Rows.{header_word, listed_at}
 use Rattle.script.proofs.EventLaws.{same_event}
-use borrow.Author.Rules.{rules}
 use Rattle.script.proofs.contents.listed.Goals as goal
+
 -- where the events begin
 offset : (file : List ℕ) {low high w : ℕ} → low ≡ get_or file 2 0 → high ≡ get_or file 3 0 → w ≡ word_of low high → w ≡ header_word file 1
 offset file l h w = omega arith

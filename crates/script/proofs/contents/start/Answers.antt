@@ -8,8 +8,8 @@ use Rattle.sd2068.specs.Power.{power_on_of}
 use Rattle.script.specs.Header.{word_of}
 use Rattle.script.specs.Rows.{header_word, starts_of}
 use Rattle.script.proofs.PartLaws.{part_there}
-use borrow.Author.Rules.{rules}
 use Rattle.script.proofs.contents.start.Goals as goal
+
 bytes :
     (file : List ℕ) {low high w at end : ℕ} → low ≡ get_or file 6 0 → high ≡ get_or file 7 0 → w ≡ word_of low high
     → at ≡ min w (length file) → end ≡ min (w + 19) (length file) → take (end - at) (drop at file) ≡ starts_of file

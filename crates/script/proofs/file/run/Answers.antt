@@ -4,8 +4,8 @@ use Rattle.events.specs.Refusal.{number_of}
 use Rattle.script.specs.Checks.{Found}
 use Rattle.script.specs.File.{refused_of}
 use Rattle.script.proofs.FileLaws.{run_accepted, run_refused}
-use borrow.Author.Rules.{rules}
 use Rattle.script.proofs.file.run.Goals as goal
+
 pub run_good-requires : goal.run_good-requires
 run_good-requires c = sym (ap (λ (f : Found). f.refusal) c.checked-fault.ensures) ∙ sym c.number.ensures ∙ c.if-number-eq0.true
 

@@ -1,10 +1,10 @@
 -- Each turn keeps where the run stands, and at the end nothing is left. Assumes nothing.
 use native.Mathlib.Omega.{arith}
 use borrow.Author.Rules.{rules}
-use Rattle.state_bytes.specs.Decoded.{clock_of}
 use Rattle.script.proofs.LineLaws.{fits_line, ended}
-use Rattle.script.proofs.TurnLaws.{Turn, run_stands, starts, as_long, goes_on}
+use Rattle.script.proofs.TurnLaws.{run_stands, starts, as_long, goes_on}
 use Rattle.script.proofs.file.run_events.Goals as goal
+
 pub loop-left-init : goal.loop-left-init
 loop-left-init c = starts _ _ _ (λ i. omega (arith, c.slice_known-1.given i)) c.requires
 

@@ -1,9 +1,6 @@
 -- Each turn keeps where the run stands, and at the end nothing is left. Assumes nothing.
-use native.Mathlib.Omega.{arith}
-use borrow.Author.Rules.{rules}
 use Rattle.state_bytes.specs.Decoded.{clock_of}
-use Rattle.script.proofs.LineLaws.{fits_line, ended}
-use Rattle.script.proofs.TurnLaws.{Turn, run_stands, starts, as_long, goes_on}
+use Rattle.script.proofs.TurnLaws.{Turn}
 use Rattle.script.proofs.file.run_events.Given as goal
 
 abbrev pub invariant-loop-left : goal.invariant-loop-left

@@ -8,6 +8,7 @@ use Rattle.script.proofs.PartLaws.{ends}
 use Rattle.script.proofs.FileLaws.{Good, good, good_by, start_taken, good_run, ran_good}
 use borrow.Author.Rules.{rules}
 use Rattle.script.proofs.file.run_good.Goals as goal
+
 pub header_of-h-requires : goal.header_of-h-requires
 header_of-h-requires c = (good _ _ c.requires).header
 

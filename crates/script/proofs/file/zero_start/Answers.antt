@@ -2,8 +2,8 @@
 use mathlib.Core.Path.{ap}
 use Rattle.registers.specs.Fixed.{clear_time_of, clear_of, kept_of, kept_time}
 use Rattle.sd2068.specs.Power.{powered_of, power_on_of}
-use borrow.Author.Rules.{rules}
 use Rattle.script.proofs.file.zero_start.Goals as goal
+
 pub returns : goal.returns
 unfolding power_on_of powered_of clear_time_of clear_of kept_of kept_time
 returns c = ap (λ p. p.state) c.power_on-started.ensures

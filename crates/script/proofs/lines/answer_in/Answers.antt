@@ -1,7 +1,7 @@
 -- By the answer's number. Assumes nothing.
 use borrow.Author.Tests.{ne_eqb}
-use borrow.Author.Rules.{rules}
 use Rattle.script.proofs.lines.answer_in.Goals as goal
+
 pub returns-in-0 : goal.returns-in-0
 returns-in-0 c = simp c.in-0.is
 

@@ -8,8 +8,8 @@ use Rattle.events.specs.declared.answer.Answer.{Answer}
 use Rattle.state_events.specs.Said.{pin_in}
 use Rattle.script.specs.Lines.{line_of, put_of}
 use Rattle.script.proofs.LineLaws.{line_put}
-use borrow.Author.Rules.{rules}
 use Rattle.script.proofs.lines.put_line.Goals as goal
+
 pub bounds-out-second : goal.bounds-out-second
 bounds-out-second c = simp length-set (omega arith)
 

@@ -2,6 +2,7 @@
 use mathlib.Core.Path.{sym}
 use Rattle.script.proofs.RefusedLaws.{ten_long, eleven_long, twelve_long}
 use Rattle.script.proofs.refused.line_size.Goals as goal
+
 pub returns-in-0-to-9 : goal.returns-in-0-to-9
 returns-in-0-to-9 c = sym (ten_long _ c.in-0-to-9.if-n-lt10-own.true)
 

@@ -1,13 +1,14 @@
 -- After i turns the first i bytes of the text stand in their places. Assumes nothing.
 use mathlib.Core.Path.{◌≡◌, refl, sym, ap, ◌∙◌}
 use mathlib.Core.List.{List}
-use Prim.Native.Nat.{ℕ, ◌+◌, ◌-◌, ◌≤◌}
+use Prim.Native.Nat.{ℕ, ◌+◌}
 use native.Mathlib.Omega.{arith}
 use native.Mathlib.Numerals.{add-one}
 use lib.ListN.{length, get_or, set, length-set}
 use lib.Seq.{paste, paste-zero, paste-suc}
 use borrow.Author.Rules.{rules}
 use Rattle.script.proofs.refused.put.Goals as goal
+
 pub loop-i-init : goal.loop-i-init
 loop-i-init c = (search rules, (refl, (c.requires, paste-zero c.args.out.now c.args.at c.args.text.now)))
 

@@ -1,10 +1,10 @@
 -- Each arm puts the digits of its range. Assumes nothing.
 use mathlib.Core.Path.{◌∙◌}
 use native.Mathlib.Omega.{arith}
-use borrow.Author.Rules.{rules}
 use borrow.Author.Tests.{lt-ltb, le-ltb}
 use Rattle.script.proofs.RefusedLaws.{ten_long, eleven_long, twelve_long}
 use Rattle.script.proofs.refused.put_number.Goals as goal
+
 pub put-requires : goal.put-requires
 put-requires c =
     let l = ten_long _ c.in-0-to-9.if-n-lt10-own.true in

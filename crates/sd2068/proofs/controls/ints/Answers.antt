@@ -1,5 +1,6 @@
 -- Each branch adds its bits. Assumes nothing.
 use Rattle.sd2068.proofs.controls.ints.Goals as goal
+
 pub returns-then-ints0 : goal.returns-then-ints0
 returns-then-ints0 c = simp (c.if-ints1.true, c.if-ints0.true)
 

@@ -1,9 +1,9 @@
 -- The two tests are the definition's, in its order. Assumes nothing.
-use borrow.Author.Rules.{rules}
 use mathlib.Core.Path.{sym, ◌∙◌}
 use borrow.Author.Tests.{eq-eqb, ne_eqb}
 use Rattle.sd2068.specs.Power.{power_on_of}
 use Rattle.sd2068.proofs.power.power_on.Goals as goal
+
 pub returns-then-bytes-ne19 : goal.returns-then-bytes-ne19
 unfolding power_on_of
 returns-then-bytes-ne19 c = simp (ne_eqb _ _ c.if-bytes-ne19.true, c.zero_start.ensures)

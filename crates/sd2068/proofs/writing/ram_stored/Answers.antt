@@ -1,8 +1,8 @@
 -- Each range of addresses is a case of the definition. Assumes nothing.
 use borrow.Author.Tests.{lt-ltb, le-ltb}
 use Rattle.sd2068.specs.Writing.{ram_stored_of}
-use borrow.Author.Rules.{rules}
 use Rattle.sd2068.proofs.writing.ram_stored.Goals as goal
+
 pub returns-in-0-to-19 : goal.returns-in-0-to-19
 unfolding ram_stored_of
 returns-in-0-to-19 c = simp (lt-ltb _ _ c.in-0-to-19.if-a-lt20-own.true)

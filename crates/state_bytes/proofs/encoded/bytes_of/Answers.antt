@@ -5,8 +5,8 @@ use lib.ListN.{get_or}
 use Rattle.sd2068.specs.declared.clock.Clock.{Clock}
 use Rattle.state_bytes.specs.Words.{low_of, second_of}
 use Rattle.state_bytes.specs.Encoded.{bytes_of}
-use borrow.Author.Rules.{rules}
 use Rattle.state_bytes.proofs.encoded.bytes_of.Goals as goal
+
 pub returns : goal.returns
 unfolding bytes_of
 returns c =

@@ -14,6 +14,7 @@ use Prim.Native.Nat.{ℕ}
 use mathlib.Core.List.{List}
 use mathlib.Core.Path.{◌≡◌, sym, ap, ◌∙◌}
 use Rattle.state_bytes.proofs.judged.is_state.Goals as goal
+
 pub returns-then-not-plain : goal.returns-then-not-plain
 returns-then-not-plain c =
     let s : List ℕ = c.args.s.now in

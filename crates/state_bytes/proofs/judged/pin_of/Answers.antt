@@ -9,6 +9,7 @@ use mathlib.Core.List.{List}
 use mathlib.Core.Bool.{true, false}
 use mathlib.Core.Path.{◌≡◌, sym, ap, ◌∙◌}
 use Rattle.state_bytes.proofs.judged.pin_of.Goals as goal
+
 pub returns-then-c-2 : goal.returns-then-c-2
 unfolding clock_of
 returns-then-c-2 c =

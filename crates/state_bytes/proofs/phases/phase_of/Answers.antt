@@ -1,6 +1,7 @@
 -- Each arm is a case of the definition. Assumes nothing.
 use borrow.Author.Tests.{ne_eqb}
 use Rattle.state_bytes.proofs.phases.phase_of.Goals as goal
+
 pub returns-in-1 : goal.returns-in-1
 returns-in-1 c = simp c.in-1.is
 

@@ -1,7 +1,7 @@
 -- By the refusal. Assumes nothing.
 use borrow.Author.Tests.{eq-eqb, ne_eqb}
-use borrow.Author.Rules.{rules}
 use Rattle.state_events.proofs.event.answered.Goals as goal
+
 pub returns-then-refusal-eq0 : goal.returns-then-refusal-eq0
 returns-then-refusal-eq0 c = simp (c.event.ensures, eq-eqb _ _ c.if-refusal-eq0.true)
 

@@ -1,8 +1,8 @@
 -- By the kind. Assumes nothing.
 use Rattle.state_events.specs.Event.{event_in}
 use borrow.Author.Tests.{ne_eqb, lt-ltb, le-ltb}
-use borrow.Author.Rules.{rules}
 use Rattle.state_events.proofs.event.event.Goals as goal
+
 pub returns-in-0 : goal.returns-in-0
 unfolding event_in
 returns-in-0 c = simp (c.start.ensures, c.in-0.is)

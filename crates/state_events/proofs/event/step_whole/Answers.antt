@@ -7,8 +7,8 @@ use Rattle.sd2068.specs.declared.clock.Clock.{Clock}
 use mathlib.Core.Path.{ap, ◌∙◌}
 use mathlib.Core.List.{List}
 use Prim.Native.Nat.{ℕ}
-use borrow.Author.Rules.{rules}
 use Rattle.state_events.proofs.event.step_whole.Goals as goal
+
 pub returns : goal.returns
 returns c =
     let l : List ℕ = c.args.s.now in

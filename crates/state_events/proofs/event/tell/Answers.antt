@@ -2,10 +2,10 @@
 use mathlib.Core.List.{List}
 use Prim.Native.Nat.{ℕ}
 use borrow.Author.Tests.{ne_eqb}
-use borrow.Author.Rules.{rules}
 use Rattle.state_events.specs.Event.{tell_in}
 use Rattle.state_events.proofs.TellLaws.{tell_by}
 use Rattle.state_events.proofs.event.tell.Goals as goal
+
 pub returns-then-s-ne61 : goal.returns-then-s-ne61
 unfolding tell_in
 returns-then-s-ne61 c = simp (ne_eqb _ _ c.if-s-ne61.true)

@@ -1,11 +1,11 @@
 -- The bytes before the index are those that are to be written. Assumes nothing.
 use mathlib.Core.Path.{◌≡◌, refl}
-use Prim.Native.Nat.{◌-◌, ◌≤◌, ◌<◌}
+use Prim.Native.Nat.{◌<◌}
 use native.Mathlib.Omega.{arith}
-use lib.ListN.{length, take}
 use borrow.Author.Rules.{rules}
 use Rattle.state_events.proofs.CopyLaws.{copied, whole}
 use Rattle.state_events.proofs.lent.fill.Goals as goal
+
 pub loop-i-init : goal.loop-i-init
 loop-i-init c = (search rules, (search rules, refl))
 

@@ -1,5 +1,5 @@
 -- Each byte is its function's. Assumes nothing.
-use borrow.Author.Rules.{rules}
 use Rattle.state_events.proofs.put.put_countdown.Goals as goal
+
 pub returns : goal.returns
 returns c = cc

@@ -1,6 +1,6 @@
 -- By the effect. Assumes nothing.
-use borrow.Author.Rules.{rules}
 use Rattle.state_events.proofs.traffic.put_effect.Goals as goal
+
 pub returns-in-Latch : goal.returns-in-Latch
 returns-in-Latch c = simp (c.latch.ensures, c.in-Latch.is)
 

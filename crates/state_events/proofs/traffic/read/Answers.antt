@@ -12,8 +12,8 @@ use Prim.Native.Nat.{ℕ}
 use mathlib.Core.List.{List}
 use mathlib.Core.Bool.{Bool}
 use mathlib.Core.Path.{◌≡◌, sym, ap, ◌∙◌}
-use borrow.Author.Rules.{rules}
 use Rattle.state_events.proofs.traffic.read.Goals as goal
+
 pub returns-in-Nothing : goal.returns-in-Nothing
 returns-in-Nothing c =
     let s : List ℕ = c.args.s.now in

@@ -1,8 +1,8 @@
 -- By the pointer that follows. Assumes nothing.
 use mathlib.Core.Path.{sym, ◌∙◌}
 use borrow.Author.Tests.{eq-eqb, ne_eqb}
-use borrow.Author.Rules.{rules}
 use Rattle.state_events.proofs.traffic.renew.Goals as goal
+
 pub returns-in-0 : goal.returns-in-0
 returns-in-0 c = simp (c.latch.ensures, eq-eqb _ _ (sym c.next.ensures ∙ c.in-0.is))
 

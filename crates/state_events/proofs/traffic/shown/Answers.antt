@@ -1,7 +1,7 @@
 -- By the address. Assumes nothing.
 use borrow.Author.Tests.{lt-ltb, le-ltb}
-use borrow.Author.Rules.{rules}
 use Rattle.state_events.proofs.traffic.shown.Goals as goal
+
 pub returns-in-0-to-6 : goal.returns-in-0-to-6
 returns-in-0-to-6 c = simp (c.at.ensures, lt-ltb _ _ c.in-0-to-6.if-a-lt7-own.true)
 

@@ -15,8 +15,8 @@ use lib.ListN.{set}
 use Prim.Native.Nat.{ℕ}
 use mathlib.Core.List.{List}
 use mathlib.Core.Path.{◌≡◌, ap, ◌∙◌}
-use borrow.Author.Rules.{rules}
 use Rattle.state_events.proofs.written.store_controls.Goals as goal
+
 pub returns : goal.returns
 returns c =
     let s : List ℕ = c.args.s.now in

@@ -7,8 +7,8 @@ use Prim.Native.Nat.{ℕ}
 use mathlib.Core.List.{List}
 use mathlib.Core.Bool.{Bool, true, false, cond, ◌&&◌}
 use mathlib.Core.Path.{◌≡◌, sym, ap, ◌∙◌}
-use borrow.Author.Rules.{rules}
 use Rattle.state_events.proofs.written.write.Goals as goal
+
 pub returns-then-is_open : goal.returns-then-is_open
 unfolding write_in
 returns-then-is_open c =

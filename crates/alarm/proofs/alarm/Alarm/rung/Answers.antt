@@ -1,7 +1,7 @@
 -- What is not asked changes nothing. Assumes nothing.
 use Rattle.alarm.specs.Alarm.{rung_of}
-use borrow.Author.Rules.{rules}
 use Rattle.alarm.proofs.alarm.Alarm.rung.Goals as goal
+
 pub returns-then-asked : goal.returns-then-asked
 returns-then-asked c = simp (c.if-asked.true, c.judged.ensures)
 

@@ -1,8 +1,8 @@
 -- Each arm changes the fields that its addresses have. Assumes nothing.
 use borrow.Author.Tests.{lt-ltb, le-ltb, ne_eqb}
 use Rattle.alarm.specs.Alarm.{stored_of}
-use borrow.Author.Rules.{rules}
 use Rattle.alarm.proofs.alarm.Alarm.stored.Goals as goal
+
 pub returns-in-14 : goal.returns-in-14
 unfolding stored_of
 returns-in-14 c = simp (c.kept-k.ensures, c.in-14.is)

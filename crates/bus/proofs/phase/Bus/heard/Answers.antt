@@ -1,7 +1,7 @@
 -- Each case of the phase is the definition's. Assumes nothing.
 use Rattle.bus.specs.Bytes.{heard_of}
-use borrow.Author.Rules.{rules}
 use Rattle.bus.proofs.phase.Bus.heard.Goals as goal
+
 pub heard_in-requires : goal.heard_in-requires
 heard_in-requires c = tt
 

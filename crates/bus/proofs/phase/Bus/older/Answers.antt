@@ -1,6 +1,6 @@
 -- Each case of the phase is the definition's. Assumes nothing.
-use borrow.Author.Rules.{rules}
 use Rattle.bus.proofs.phase.Bus.older.Goals as goal
+
 pub aged-requires : goal.aged-requires
 aged-requires c = tt
 

@@ -1,7 +1,7 @@
 -- Each case of the phase is the definition's. Assumes nothing.
 use Rattle.bus.specs.Reads.{read_of}
-use borrow.Author.Rules.{rules}
 use Rattle.bus.proofs.phase.Bus.read.Goals as goal
+
 pub read_in-requires : goal.read_in-requires
 read_in-requires c = tt
 

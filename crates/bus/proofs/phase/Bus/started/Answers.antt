@@ -1,6 +1,6 @@
 -- Each case of the phase is the definition's. Assumes nothing.
-use borrow.Author.Rules.{rules}
 use Rattle.bus.proofs.phase.Bus.started.Goals as goal
+
 pub returns-in-Closed : goal.returns-in-Closed
 returns-in-Closed c = simp c.in-Closed.is
 

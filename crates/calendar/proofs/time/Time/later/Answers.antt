@@ -6,8 +6,8 @@ use native.Mathlib.Nat.{add-mod-mod}
 use native.Mathlib.Omega.{arith}
 use Rattle.calendar.specs.Numbers.{number_of, time_in, days_on_of, later_of, second_number, time_found}
 use Rattle.calendar.proofs.MomentLaws.{number_small, time_absent, time_is}
-use borrow.Author.Rules.{rules}
 use Rattle.calendar.proofs.time.Time.later.Goals as goal
+
 -- whole days apart, as the code counts them without a sum that could wrap
 days-passed : (a n : ℕ) → (a + n % 86400) / 86400 + n / 86400 ≡ (a + n) / 86400
 days-passed a n = omega arith

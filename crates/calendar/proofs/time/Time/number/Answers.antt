@@ -5,6 +5,7 @@ use Rattle.dates.specs.Dates.{day_number_of}
 use Rattle.calendar.specs.Lent.{second_from}
 use Rattle.calendar.proofs.LentLaws.{second_from_lem}
 use Rattle.calendar.proofs.time.Time.number.Goals as goal
+
 pub returns : goal.returns
 returns c =
     let a = c.args in

@@ -4,6 +4,7 @@ use Rattle.fields.specs.Times.{legal_time_of, second_of}
 use Rattle.dates.specs.Lent.{day_number_in_of}
 use Rattle.calendar.specs.Lent.{second_from, number_in_of}
 use Rattle.calendar.proofs.time.Time.number_in.Goals as goal
+
 pub returns : goal.returns
 unfolding number_in_of
 returns c =

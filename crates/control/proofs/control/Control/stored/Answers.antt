@@ -1,8 +1,8 @@
 -- Each arm is a case of the definition. Assumes nothing.
 use borrow.Author.Tests.{ne_eqb}
 use Rattle.control.specs.Control.{stored_of}
-use borrow.Author.Rules.{rules}
 use Rattle.control.proofs.control.Control.stored.Goals as goal
+
 pub returns-in-16 : goal.returns-in-16
 unfolding stored_of
 returns-in-16 c = simp c.in-16.is

@@ -1,8 +1,8 @@
 -- Each arm is a case of the definition. Assumes nothing.
 use borrow.Author.Tests.{ne_eqb}
 use Rattle.control.specs.Lock.{written_of}
-use borrow.Author.Rules.{rules}
 use Rattle.control.proofs.lock.Lock.written.Goals as goal
+
 pub returns-in-15 : goal.returns-in-15
 unfolding written_of
 returns-in-15 c = simp (c.either-in-15.ensures, c.either.ensures, c.in-15.is)

@@ -3,6 +3,7 @@ use mathlib.Core.Path.{◌∙◌, sym}
 use Rattle.dates.specs.Dates.{day_of, day_number_of}
 use Rattle.dates.proofs.DateLaws.{LegalDate, legal_date, month_small}
 use Rattle.dates.proofs.date.Date.number.Goals as goal
+
 pub first_day-requires : goal.first_day-requires
 first_day-requires c =
     let legal : LegalDate c.args.self = legal_date c.args.self (sym c.legal_date.ensures ∙ c.if-legal_date.true) in

@@ -1,10 +1,9 @@
 -- The entry of a legal date's month is in any table. Assumes nothing.
 use mathlib.Core.Path.{◌∙◌, sym}
-use Prim.Native.Nat.{◌<◌}
 use Rattle.dates.specs.Lent.{day_number_in_of}
 use Rattle.dates.proofs.DateLaws.{legal_date, month_small}
-use borrow.Author.Rules.{rules}
 use Rattle.dates.proofs.date.Date.number_in.Goals as goal
+
 pub bounds-days-k : goal.bounds-days-k
 bounds-days-k c =
     let d = c.args.self in

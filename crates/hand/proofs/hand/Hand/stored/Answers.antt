@@ -1,8 +1,8 @@
 -- Each arm changes the fields that its addresses have. Assumes nothing.
 use borrow.Author.Tests.{lt-ltb, le-ltb, ne_eqb}
 use Rattle.hand.specs.Hand.{stored_of}
-use borrow.Author.Rules.{rules}
 use Rattle.hand.proofs.hand.Hand.stored.Goals as goal
+
 pub returns-in-18 : goal.returns-in-18
 unfolding stored_of
 returns-in-18 c = simp (c.kept-k.ensures, c.in-18.is)

@@ -1,6 +1,6 @@
 -- The branch is the definition's. Assumes nothing.
-use borrow.Author.Rules.{rules}
 use Rattle.hand.proofs.hand.Hand.time_after.Goals as goal
+
 pub returns-then-ends : goal.returns-then-ends
 returns-then-ends c = simp (c.if-ends.true, c.advanced.ensures)
 

@@ -1,5 +1,5 @@
 -- The limit of the counter is the second's length. Assumes nothing.
-use borrow.Author.Rules.{rules}
 use Rattle.hand.proofs.hand.Hand.within.Goals as goal
+
 pub returns : goal.returns
 returns c = simp (c.within.ensures, c.length.ensures)

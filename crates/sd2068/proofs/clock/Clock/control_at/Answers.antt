@@ -2,6 +2,7 @@
 use borrow.Author.Tests.{ne_eqb}
 use Rattle.sd2068.specs.Reading.{control_at_of}
 use Rattle.sd2068.proofs.clock.Clock.control_at.Goals as goal
+
 pub returns-in-14 : goal.returns-in-14
 unfolding control_at_of
 returns-in-14 c = simp c.in-14.is

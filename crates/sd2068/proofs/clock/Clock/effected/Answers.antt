@@ -1,6 +1,6 @@
 -- Each effect is a case of the definition. Assumes nothing.
-use borrow.Author.Rules.{rules}
 use Rattle.sd2068.proofs.clock.Clock.effected.Goals as goal
+
 pub returns-in-None : goal.returns-in-None
 returns-in-None c = simp c.in-None.is
 

@@ -2,6 +2,7 @@
 use borrow.Author.Tests.{ne_eqb}
 use Rattle.sd2068.specs.Step.{event_of}
 use Rattle.sd2068.proofs.clock.Clock.event.Goals as goal
+
 pub returns-in-0 : goal.returns-in-0
 unfolding event_of
 returns-in-0 c = simp (c.quiet.ensures, c.started.ensures, c.in-0.is)

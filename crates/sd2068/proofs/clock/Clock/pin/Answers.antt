@@ -2,6 +2,7 @@
 use borrow.Author.Tests.{ne_eqb}
 use Rattle.sd2068.specs.Pin.{pin_of}
 use Rattle.sd2068.proofs.clock.Clock.pin.Goals as goal
+
 pub returns-in-0 : goal.returns-in-0
 unfolding pin_of
 returns-in-0 c = simp (← c.ints.ensures, c.in-0.is)

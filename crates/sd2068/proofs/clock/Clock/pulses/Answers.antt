@@ -1,12 +1,12 @@
 -- What is left to do from here comes to what was to be done. Assumes nothing.
-use borrow.Author.Rules.{rules}
 use native.Mathlib.Omega.{arith}
-use mathlib.Core.Path.{◌≡◌, refl, ap, ◌∙◌}
+use mathlib.Core.Path.{◌≡◌, ap, ◌∙◌}
 use Prim.Native.Nat.{ℕ, ◌-◌}
 use Rattle.calendar.specs.Repeat.{times}
 use Rattle.sd2068.specs.Pulse.{pulse_of}
 use Rattle.sd2068.proofs.DriftLaws.{within_asked, drifts_first}
 use Rattle.sd2068.proofs.clock.Clock.pulses.Goals as goal
+
 pub overflow_sub-left-in-loop-left-2 : goal.overflow_sub-left-in-loop-left-2
 overflow_sub-left-in-loop-left-2 c = let l = c.loop-left in rw c.within-within.ensures (within_asked l.c (l.left - 1))
 

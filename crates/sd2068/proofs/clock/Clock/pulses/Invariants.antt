@@ -1,11 +1,7 @@
 -- What is left to do from here comes to what was to be done. Assumes nothing.
-use borrow.Author.Rules.{rules}
-use native.Mathlib.Omega.{arith}
-use mathlib.Core.Path.{◌≡◌, refl, ap, ◌∙◌}
-use Prim.Native.Nat.{ℕ, ◌-◌}
+use mathlib.Core.Path.{◌≡◌}
 use Rattle.calendar.specs.Repeat.{times}
 use Rattle.sd2068.specs.Pulse.{pulse_of}
-use Rattle.sd2068.proofs.DriftLaws.{within_asked, drifts_first}
 use Rattle.sd2068.proofs.clock.Clock.pulses.Given as goal
 
 abbrev pub invariant-loop-left : goal.invariant-loop-left

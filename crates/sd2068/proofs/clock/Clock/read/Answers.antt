@@ -1,7 +1,7 @@
 -- Each case of what is sent is the definition's. Assumes nothing.
 use Rattle.sd2068.specs.Transfer.{read_of}
-use borrow.Author.Rules.{rules}
 use Rattle.sd2068.proofs.clock.Clock.read.Goals as goal
+
 pub returns-in-Nothing : goal.returns-in-Nothing
 unfolding read_of
 returns-in-Nothing c = simp (← c.read-read.ensures, c.in-Nothing.is)

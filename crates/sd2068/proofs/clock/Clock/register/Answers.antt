@@ -1,8 +1,8 @@
 -- Each range of addresses is a case of the definition. Assumes nothing.
 use borrow.Author.Tests.{lt-ltb, le-ltb}
 use Rattle.sd2068.specs.Reading.{register_of}
-use borrow.Author.Rules.{rules}
 use Rattle.sd2068.proofs.clock.Clock.register.Goals as goal
+
 pub returns-in-0-to-6 : goal.returns-in-0-to-6
 unfolding register_of
 returns-in-0-to-6 c = simp (c.byte_at.ensures, lt-ltb _ _ c.in-0-to-6.if-a-lt7-own.true)

@@ -1,6 +1,6 @@
 -- After i turns the first i registers stand in the array. Assumes nothing.
 use mathlib.Core.Path.{◌≡◌, refl, sym, ap, ◌∙◌}
-use Prim.Native.Nat.{ℕ, ◌-◌, ◌≤◌, ◌<◌}
+use Prim.Native.Nat.{ℕ, ◌<◌}
 use native.Mathlib.Numerals.{add-one}
 use native.Mathlib.Omega.{arith}
 use lib.ListN.{length, take, length-set}
@@ -8,6 +8,7 @@ use lib.Seq.{take-suc-set, take_all}
 use borrow.Author.Rules.{rules}
 use Rattle.sd2068.specs.Reading.{registers_to}
 use Rattle.sd2068.proofs.clock.Clock.registers.Goals as goal
+
 pub loop-i-init : goal.loop-i-init
 unfolding registers_to
 loop-i-init c = (search rules, (refl, refl))

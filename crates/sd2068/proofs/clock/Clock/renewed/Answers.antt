@@ -2,6 +2,7 @@
 use borrow.Author.Tests.{ne_eqb}
 use Rattle.sd2068.specs.Transfer.{renewed_of}
 use Rattle.sd2068.proofs.clock.Clock.renewed.Goals as goal
+
 pub returns-in-0 : goal.returns-in-0
 unfolding renewed_of
 returns-in-0 c = simp (c.latch.ensures, ← c.next.ensures, c.in-0.is)

@@ -3,6 +3,7 @@ use mathlib.Core.Path.{sym, ◌∙◌}
 use borrow.Author.Tests.{ne_eqb}
 use Rattle.sd2068.specs.Step.{refusal_of, step_of}
 use Rattle.sd2068.proofs.clock.Clock.step.Goals as goal
+
 pub returns-then-not-well_formed : goal.returns-then-not-well_formed
 unfolding step_of refusal_of
 returns-then-not-well_formed c = simp (c.refused.ensures, sym c.well_formed-2.ensures ∙ c.if-not-well_formed.true)

@@ -2,6 +2,7 @@
 use mathlib.Core.Path.{sym, ◌∙◌}
 use Rattle.sd2068.specs.Writing.{write_of}
 use Rattle.sd2068.proofs.clock.Clock.write.Goals as goal
+
 pub returns-then-stores : goal.returns-then-stores
 unfolding write_of
 returns-then-stores c = simp (c.stored.ensures, sym c.stores.ensures ∙ c.if-stores.true)
