@@ -1,9 +1,13 @@
 // Turns drawn second numbers into times and back, each by itself or all by one table, and prints a digest of all of it.
 #![tactic(auto)]
+
+ghost use Rattle.std.specs.Prelude.{◌≤◌, IfOk, length};
+
 use calendar::{SecondNumber, Time, TimeFound, time_at, time_in};
 use dates::first_days;
 use fields::HourMode;
-use libc::{STDIN_FILENO, STDOUT_FILENO};
+use std::io;
+use std::io::Read;
 
 // Where one round ends: the number last drawn, and the digest.
 #[derive(Clone, Copy)]
@@ -107,32 +111,49 @@ fn digest_in(seed: u32, count: u32) -> u32 {
     round.digest
 }
 
-fn answer(seed: u32, count: u32, way: u8) {
+fn answer(rt: &impl Print, seed: u32, count: u32, way: u8) -> io::Result<()> {
     let digest = if way == 1 {
         digest_in(seed, count)
     } else {
         digest_of(seed, count)
     };
-    io::print_decimal(STDOUT_FILENO, digest as u64);
-    io::write_all(STDOUT_FILENO, b"\n");
+    println!(rt; "{digest}")
+}
+
+// Reads until the buffer is full or the input ends, and returns how many bytes it has put into it.
+fn read_full(input: &mut impl Read, buf: &mut [u8]) -> io::Result<usize>
+    ensures { IfOk result (λ n. n ≤ length buf.new) }
+{
+    let mut done = 0;
+    while done < buf.len() {
+        let n = input.read(&mut buf[done..])?;
+        if n == 0 {
+            break;
+        }
+        done += n;
+    }
+    Ok(done)
 }
 
 // Asked once or twice: a seed and a count of four bytes each, and a byte that is 1 where one table is to serve for all.
-fn main() {
+fn main(rt: HostRuntime) -> io::Result<()> {
     let mut b = [0u8; 18];
-    let got = io::read_full(STDIN_FILENO, &mut b);
+    let got = read_full(&mut rt.stdin(), &mut b)?;
     if got >= 9 {
         answer(
+            &rt,
             long(b[0], b[1], b[2], b[3]),
             long(b[4], b[5], b[6], b[7]),
             b[8],
-        );
+        )?;
     }
     if got == 18 {
         answer(
+            &rt,
             long(b[9], b[10], b[11], b[12]),
             long(b[13], b[14], b[15], b[16]),
             b[17],
-        );
+        )?;
     }
+    Ok(())
 }
