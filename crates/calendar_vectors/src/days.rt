@@ -4,6 +4,7 @@ use crate::draws::draw;
 use crate::lines::{print_digest, print_range};
 use calendar::{TimeFound, time_at};
 use fields::HourMode;
+use std::io;
 
 // A digest, and the number drawn last.
 #[derive(Clone, Copy)]
@@ -12,20 +13,21 @@ struct Run {
     drawn: u32,
 }
 
-pub(crate) fn print_dates() {
+pub(crate) fn print_dates(rt: &impl Print) -> io::Result<()> {
     let mut drawn = 1;
     for line in 0..25 {
-        drawn = print_line(line, drawn);
+        drawn = print_line(rt, line, drawn)?;
     }
+    Ok(())
 }
 
 // A line has four years, one of them leap; the next line draws on from the number returned.
-fn print_line(line: u8, drawn: u32) -> u32 {
+fn print_line(rt: &impl Print, line: u8, drawn: u32) -> io::Result<u32> {
     let first = line as u32 * 1461;
     let run = run_of_days(first, first + 1461, drawn);
-    print_range(b"dates ", first, first + 1460);
-    print_digest(run.digest);
-    run.drawn
+    print_range(rt, "dates ", first, first + 1460)?;
+    print_digest(rt, run.digest)?;
+    Ok(run.drawn)
 }
 
 fn run_of_days(first: u32, end: u32, drawn: u32) -> Run {

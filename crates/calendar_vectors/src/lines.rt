@@ -1,19 +1,17 @@
 // The lines that are printed.
-use libc::STDOUT_FILENO;
+use std::io;
 
 // A line's beginning: what it is about, from the first to the last.
-pub(crate) fn print_range(what: &[u8], first: u32, last: u32) {
-    print_figure(what, first);
-    print_figure(b" to ", last);
+pub(crate) fn print_range(rt: &impl Print, what: &str, first: u32, last: u32) -> io::Result<()> {
+    print_figure(rt, what, first)?;
+    print_figure(rt, " to ", last)
 }
 
 // A line's end.
-pub(crate) fn print_digest(d: u32) {
-    print_figure(b" digest ", d);
-    io::write_all(STDOUT_FILENO, b"\n");
+pub(crate) fn print_digest(rt: &impl Print, d: u32) -> io::Result<()> {
+    println!(rt; " digest {d}")
 }
 
-pub(crate) fn print_figure(name: &[u8], n: u32) {
-    io::write_all(STDOUT_FILENO, name);
-    io::print_decimal(STDOUT_FILENO, n as u64);
+pub(crate) fn print_figure(rt: &impl Print, name: &str, n: u32) -> io::Result<()> {
+    print!(rt; "{name}{n}")
 }

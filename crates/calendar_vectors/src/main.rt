@@ -1,5 +1,6 @@
 // Prints digests of what the calendar answers, for comparison with figures made without it.
 #![tactic(auto)]
+
 mod days;
 mod digest;
 mod draws;
@@ -7,8 +8,10 @@ mod lines;
 mod month_ends;
 mod patterns;
 
-fn main() {
-    days::print_dates();
-    month_ends::print_month_ends();
-    patterns::print_patterns();
+use std::io;
+
+fn main(rt: HostRuntime) -> io::Result<()> {
+    days::print_dates(&rt)?;
+    month_ends::print_month_ends(&rt)?;
+    patterns::print_patterns(&rt)
 }

@@ -4,18 +4,20 @@ use crate::lines::{print_digest, print_range};
 use calendar::{TimeFound, time_at};
 use dates::{Date, DayNumber};
 use fields::{HourMode, byte};
+use std::io;
 
-pub(crate) fn print_month_ends() {
+pub(crate) fn print_month_ends(rt: &impl Print) -> io::Result<()> {
     for line in 0..12 {
-        print_line(line);
+        print_line(rt, line)?;
     }
+    Ok(())
 }
 
-fn print_line(line: u8) {
+fn print_line(rt: &impl Print, line: u8) -> io::Result<()> {
     let first = line as u32 * 100;
     let digest = digest_of_months(first, first + 100);
-    print_range(b"month ends ", first, first + 99);
-    print_digest(digest);
+    print_range(rt, "month ends ", first, first + 99)?;
+    print_digest(rt, digest)
 }
 
 fn digest_of_months(first: u32, end: u32) -> u32 {

@@ -3,6 +3,7 @@ use crate::digest::{mix_bool, mix_found, mix_number, mix_time};
 use crate::draws::draw;
 use crate::lines::{print_digest, print_figure, print_range};
 use calendar::{SecondNumber, Time};
+use std::io;
 
 // Eight bytes for each field, about which its rules turn: last values, leap years, bytes just not legal.
 const SECONDS: [u8; 8] = [0x59, 0x59, 0x59, 0x00, 0x58, 0x5a, 0x60, 0xd9];
@@ -35,22 +36,23 @@ struct Tally {
     drawn: u32,
 }
 
-pub(crate) fn print_patterns() {
+pub(crate) fn print_patterns(rt: &impl Print) -> io::Result<()> {
     let mut drawn = 2;
     for line in 0..10 {
-        drawn = print_line(line, drawn);
+        drawn = print_line(rt, line, drawn)?;
     }
+    Ok(())
 }
 
 // The next line draws on from the number returned.
-fn print_line(line: u8, drawn: u32) -> u32 {
+fn print_line(rt: &impl Print, line: u8, drawn: u32) -> io::Result<u32> {
     let first = line as u32 * 10000;
     let tally = tally_of_patterns(10000, drawn);
-    print_range(b"patterns ", first, first + 9999);
-    print_figure(b" numbered ", tally.numbered);
-    print_figure(b" years turned ", tally.turned);
-    print_digest(tally.digest);
-    tally.drawn
+    print_range(rt, "patterns ", first, first + 9999)?;
+    print_figure(rt, " numbered ", tally.numbered)?;
+    print_figure(rt, " years turned ", tally.turned)?;
+    print_digest(rt, tally.digest)?;
+    Ok(tally.drawn)
 }
 
 fn tally_of_patterns(many: u32, drawn: u32) -> Tally {
@@ -99,11 +101,7 @@ fn is_numbered(t: Time) -> bool {
 
 // One more where b holds; no count here comes near the wrap.
 fn count(n: u32, b: bool) -> u32 {
-    if b {
-        std::num::wrapping_add_u32(n, 1)
-    } else {
-        n
-    }
+    if b { n.wrapping_add(1) } else { n }
 }
 
 // A draw for each field, and one for the seconds to go on.
