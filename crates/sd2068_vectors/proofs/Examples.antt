@@ -20,7 +20,7 @@ use Rattle.sd2068.specs.Pin.{pin_of}
 use Rattle.sd2068.specs.Transfer.{stopped_of, byte_of, renewed_of, read_of}
 use Rattle.sd2068.specs.WellFormed.{well_formed_of}
 use Rattle.sd2068.specs.Step.{event_of, refusal_of, step_of}
-use Rattle.sd2068.specs.Run.{start, stop, byte, ack, nak, pulses, told_by}
+use Rattle.sd2068.specs.Run.{start, stop, byte, ack, nak, told_by}
 
 -- the answers on the way, each with the pin
 lines : List Event → Clock → List ℕ

@@ -1,21 +1,25 @@
 // A script file, run with the room that its output is lent. (rules 9.4 and 9.5)
 ghost use Rattle.std.specs.Prelude.{◌≡◌, ◌+◌, ◌≤◌, length};
 
+use crate::input::read_full;
 use crate::lines::{print, print_ran};
 use crate::words::word;
-use libc::STDIN_FILENO;
 use script::run;
+use std::io;
+use std::io::Read;
 
 // The room, the file's length and the file; whether all of it was there.
-pub(crate) fn from_file() -> bool {
+pub(crate) fn from_file(rt: &impl Print, input: &mut impl Read) -> io::Result<bool> {
     let mut sizes = [0u8; 4];
-    let got = io::read_full(STDIN_FILENO, &mut sizes);
+    let got = read_full(input, &mut sizes)?;
     if got < 4 {
-        return false;
+        return Ok(false);
     }
     let mut file = zeros();
     let mut out = dots();
     run_sized(
+        rt,
+        input,
         &mut file,
         &mut out,
         word(sizes[0], sizes[1]) as usize,
@@ -37,24 +41,31 @@ fn dots() -> [u8; 65543]
     [b'.'; 65543]
 }
 
-fn run_sized(file: &mut [u8], out: &mut [u8], room: usize, size: usize) -> bool
+fn run_sized(
+    rt: &impl Print,
+    input: &mut impl Read,
+    file: &mut [u8],
+    out: &mut [u8],
+    room: usize,
+    size: usize,
+) -> io::Result<bool>
     requires { (size ≤ length file.old) × (room + 8 ≤ length out.old) }
 {
-    let got = io::read_full(STDIN_FILENO, &mut file[..size]);
+    let got = read_full(input, &mut file[..size])?;
     if got < size {
-        return false;
+        return Ok(false);
     }
-    run_file(&file[..size], out, room);
-    true
+    run_file(rt, &file[..size], out, room)?;
+    Ok(true)
 }
 
 // The bytes that are not written stay dots, and so must the eight behind the room.
-fn run_file(file: &[u8], out: &mut [u8], room: usize)
+fn run_file(rt: &impl Print, file: &[u8], out: &mut [u8], room: usize) -> io::Result<()>
     requires { room + 8 ≤ length out.old }
 {
     let ran = run(file, &mut out[..room]);
-    print_ran(ran);
+    print_ran(rt, ran)?;
     let end = room + 8;
-    print(&out[..end]);
-    print(b"\n");
+    print(rt, &out[..end])?;
+    print(rt, b"\n")
 }

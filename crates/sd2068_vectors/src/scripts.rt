@@ -1,23 +1,26 @@
 // A script: a count of events, and the events one after the other. (rule 8.1)
+use crate::input::read_full;
 use crate::lines::{print_state, print_step};
 use crate::words::word;
-use libc::STDIN_FILENO;
 use sd2068::Clock;
+use std::io;
+use std::io::Read;
 
 // The state is shown after a STOP, after a power loss and at the end.
-pub(crate) fn run_events(start: Clock) {
+pub(crate) fn run_events(rt: &impl Print, input: &mut impl Read, start: Clock) -> io::Result<()> {
     let mut count = [0u8; 2];
-    io::read_full(STDIN_FILENO, &mut count);
+    read_full(input, &mut count)?;
     let mut ran = Ran {
         clock: start,
         shown: false,
     };
     for _ in 0..word(count[0], count[1]) {
-        ran = run_event(ran.clock);
+        ran = run_event(rt, input, ran.clock)?;
     }
     if !ran.shown {
-        print_state(ran.clock);
+        print_state(rt, ran.clock)?;
     }
+    Ok(())
 }
 
 // The state, and whether it was shown.
@@ -27,17 +30,17 @@ struct Ran {
     shown: bool,
 }
 
-fn run_event(c: Clock) -> Ran {
+fn run_event(rt: &impl Print, input: &mut impl Read, c: Clock) -> io::Result<Ran> {
     let mut event = [0u8; 4];
-    io::read_full(STDIN_FILENO, &mut event);
+    read_full(input, &mut event)?;
     let kind = event[0];
     let r = c.step(kind, event[1], word(event[2], event[3]));
     let clock = r.clock;
-    let shown = print_step(r) & shows(kind);
+    let shown = print_step(rt, r)? & shows(kind);
     if shown {
-        print_state(clock);
+        print_state(rt, clock)?;
     }
-    Ran { clock, shown }
+    Ok(Ran { clock, shown })
 }
 
 // A STOP and a power loss.
