@@ -17,8 +17,7 @@ from pathlib import Path
 SOURCES = Path(__file__).resolve().parent
 ROOT = SOURCES.parent
 BUILT = ROOT / "target" / "benches"
-PROVED = ROOT / "target" / "bin"
-C = ROOT / "tools" / "c"
+TOOLS = ROOT / "tools"
 
 # A run is so many slices of each side in turns, of about so many seconds, as in measure.c.
 SLICES = 5
@@ -51,21 +50,23 @@ def call(words, says, **options):
         raise Stop(says) from error
 
 
+def said(words, says):
+    """The one line that a command prints."""
+    return call(words, says, stdin=subprocess.DEVNULL, stdout=subprocess.PIPE, text=True).rstrip("\n")
+
+
 # Building
 
 def build_c(name, *others):
     BUILT.mkdir(parents=True, exist_ok=True)
-    words = [C, "build", BUILT / name, "-I", ROOT / "include", SOURCES / f"{name}.c", *others]
+    words = [TOOLS / "c", "build", BUILT / name, "-I", ROOT / "include", SOURCES / f"{name}.c", *others]
     call(words, f"benches/{name}.c cannot be built")
 
 
 def archive():
     """The proved clock to link: that of this repository, or another that is named."""
     given = os.environ.get("TALLOWREED_ARCHIVE")
-    if not given:
-        words = ["rt", "staticlib", "sd2068_abi"]
-        call(words, "rt staticlib sd2068_abi failed", cwd=ROOT, stdin=subprocess.DEVNULL, stdout=subprocess.DEVNULL)
-    path = Path(given) if given else ROOT / "target" / "staticlib" / "libsd2068_abi.a"
+    path = Path(given or said([TOOLS / "archive"], "tools/archive failed"))
     if not path.is_file():
         raise Stop(f"no such archive: {path}")
     return path
@@ -77,14 +78,9 @@ def build_measure():
     build_c("measure", SOURCES / "yardstick.c", archive())
 
 
-def build_proved(crate, given):
-    """tools/program proves and builds a program that is not built yet, and runs it."""
-    call([ROOT / "tools" / "program", crate], f"tools/program {crate} failed", input=given, stdout=subprocess.DEVNULL)
-
-
-def words_for(program):
-    """The words that run a program for x86-64 on this machine."""
-    return call([C, "words", program], f"{program} cannot be run", stdout=subprocess.PIPE, text=True).splitlines()
+def proved(crate):
+    """A proved program, which tools/program builds if it is not built yet."""
+    return Path(said([TOOLS / "program", "--words", crate], f"tools/program {crate} failed"))
 
 
 # Steps and files, timed by measure.c
@@ -107,7 +103,7 @@ class Measured:
         with tempfile.NamedTemporaryFile() as file:
             file.write(work.file)
             file.flush()
-            words = [C, "run", BUILT / "measure", self.way, file.name, str(work.first), str(runs)]
+            words = [BUILT / "measure", self.way, file.name, str(work.first), str(runs)]
             lines = call(words, f"benches/measure.c fails on: {work.name}", stdout=subprocess.PIPE, text=True)
         return [list(map(int, line.split())) for line in lines.splitlines()]
 
@@ -129,14 +125,14 @@ class Measured:
 
 # Whole programs, timed from outside
 
-def time_processes(words, given, times):
+def time_processes(program, given, times):
     """Seconds that a program takes with this file as its input, started so many times in a row."""
     actions = [(os.POSIX_SPAWN_OPEN, 0, given, os.O_RDONLY, 0), (os.POSIX_SPAWN_OPEN, 1, os.devnull, os.O_WRONLY, 0)]
     begin = time.monotonic()
     for _ in range(times):
-        _, status = os.waitpid(os.posix_spawn(words[0], words, os.environ, file_actions=actions), 0)
+        _, status = os.waitpid(os.posix_spawn(program, [program], os.environ, file_actions=actions), 0)
         if status != 0:
-            raise Stop(f"{words[-1]} failed while it was timed")
+            raise Stop(f"{program} failed while it was timed")
     return time.monotonic() - begin
 
 
@@ -158,16 +154,14 @@ class Programs:
         self.crate, self.source, self.other = crate, source, other
 
     def build(self):
-        build_proved(self.crate, self.example)
         build_c(self.source, SOURCES / f"{self.other}.c", *self.flags)
-        self.sides = [words_for(PROVED / self.crate), words_for(BUILT / self.source)]
+        self.sides = [proved(self.crate), BUILT / self.source]
 
     def compare_on(self, *given):
         """One input for each side."""
         sides = zip(self.sides, given)
-        said = [call(words, f"{words[-1]} failed", input=asked, stdout=subprocess.PIPE) for words, asked in sides]
-        proved, by_hand = said
-        if proved != by_hand or not proved:
+        outputs = [call([side], f"{side} failed", input=asked, stdout=subprocess.PIPE) for side, asked in sides]
+        if outputs[0] != outputs[1] or not outputs[0]:
             raise Stop(f"the two sides differ on: {self.name}")
 
     def rows(self, runs):

@@ -28,11 +28,8 @@ if [ "$machine" != "Linux x86_64" ]; then
 fi
 
 if [ -z "${TALLOWREED_ARCHIVE_DIR:-}" ]; then
-    TALLOWREED_ARCHIVE_DIR=target/staticlib
-    if [ ! -f target/staticlib/libsd2068_abi.a ]; then
-        command -v rt >/dev/null 2>&1 || fail "rt is missing, and it has to prove and build libsd2068_abi.a first"
-        rt staticlib sd2068_abi || fail "rt staticlib sd2068_abi failed"
-    fi
+    archive=$(tools/archive) || fail "tools/archive failed"
+    TALLOWREED_ARCHIVE_DIR=$(dirname -- "$archive")
 fi
 [ -f "$TALLOWREED_ARCHIVE_DIR/libsd2068_abi.a" ] || fail "$TALLOWREED_ARCHIVE_DIR/libsd2068_abi.a is missing"
 # The build takes a folder as seen from the package, so it is handed the whole path.

@@ -2,9 +2,9 @@
 
 usage: python3 tests/boundary.py [ARCHIVE]
 
-ARCHIVE is by default target/staticlib/libsd2068_abi.a, which rt proves and builds where it is missing or older than
-a source. The cases are those of harness/target/release/boundary. A line for each part; the exit status is 1 where one
-is not as it should be, and 2 where something is missing.
+ARCHIVE is by default the one that tools/archive proves and builds. The cases are those of
+harness/target/release/boundary. A line for each part; the exit status is 1 where one is not as it should be, and 2
+where something is missing.
 """
 
 import os
@@ -14,9 +14,8 @@ import tempfile
 from pathlib import Path
 
 ROOT = Path(__file__).resolve().parent.parent
-TOOL = ROOT / "tools" / "c"
+TOOLS = ROOT / "tools"
 CASES = ROOT / "harness" / "target" / "release" / "boundary"
-ARCHIVE = ROOT / "target" / "staticlib" / "libsd2068_abi.a"
 BOARD = ROOT / "examples" / "board.c"
 
 # 20 December at 09:15, then at 9:15 PM: in 12-hour mode 29h is the code of the latter (rule 3.5).
@@ -64,28 +63,20 @@ def header():
     return "the header and the example board compile as %s" % ", ".join(standards)
 
 
-def is_old(archive):
-    """Whether a source was written after the archive."""
-    folders = ("src", "specs", "proofs")
-    sources = [path for folder in folders for path in ROOT.glob("crates/*/%s/**/*" % folder)]
-    written = archive.stat().st_mtime
-    return any(path.stat().st_mtime > written for path in [*sources, ROOT / "crates.txt"])
-
-
 def find_archive(words):
     if words:
         archive = Path(words[0]).resolve()
         if not archive.is_file():
             raise Missing("there is no archive %s" % words[0])
         return archive
-    if not ARCHIVE.is_file() or is_old(ARCHIVE):
-        if call(["rt", "staticlib", "sd2068_abi"], stdin=subprocess.DEVNULL).returncode != 0:
-            raise Failed("rt staticlib sd2068_abi failed")
-    return ARCHIVE
+    done = call([TOOLS / "archive"], stdin=subprocess.DEVNULL)
+    if done.returncode != 0:
+        raise Failed("tools/archive failed")
+    return Path(done.stdout.rstrip("\n"))
 
 
 def build(program, sources, archive):
-    if call([TOOL, "build", program, *sources, archive]).returncode != 0:
+    if call([TOOLS / "c", "build", program, *sources, archive]).returncode != 0:
         raise Failed("%s cannot be built with %s" % (program.name, archive))
 
 
@@ -99,7 +90,7 @@ def comparison(folder, archive):
         if subprocess.run([CASES], stdout=written).returncode != 0:
             raise Failed("the independent model wrote no cases")
     with cases.open("rb") as given:
-        done = call([TOOL, "run", program], stdin=given)
+        done = call([program], stdin=given)
     if done.returncode != 0:
         print(done.stdout, end="")
         raise Failed("the archive does not do what it should (status %d)" % done.returncode)
@@ -109,7 +100,7 @@ def comparison(folder, archive):
 def board(folder, archive):
     program = folder / "board"
     build(program, [BOARD], archive)
-    done = call([TOOL, "run", program])
+    done = call([program])
     if (done.returncode, done.stdout) != (0, BOARD_LINES):
         raise Failed("examples/board printed %r and ended with status %d" % (done.stdout, done.returncode))
     return "the example board reads back %s" % " and ".join(BOARD_LINES.split())

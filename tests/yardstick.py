@@ -49,7 +49,7 @@ def build():
 
 
 def yardstick(name, *words, **options):
-    return output([C, "run", TARGET / name, *words], **options)
+    return output([TARGET / name, *words], **options)
 
 
 def compare(what, owed, given):

@@ -22,7 +22,7 @@ fn main() {
     if !archive.is_file() {
         println!(
             "cargo:warning={} is missing, and without it nothing links: \
-             run `rt staticlib sd2068_abi`, or let {FOLDER_VARIABLE} name its folder",
+             run `tools/archive`, or let {FOLDER_VARIABLE} name its folder",
             archive.display()
         );
     }

@@ -42,22 +42,16 @@ def judge(crate, status, failure=Stopped):
         raise failure(f"the program {crate} ended with status {status}")
 
 
-def options():
-    """How each program is started: nobody's settings change what the emulator does."""
-    settings = {name: value for name, value in os.environ.items() if not name.startswith("QEMU_")}
-    return {"stdout": subprocess.PIPE, "env": settings}
-
-
 def output(crate, script):
     """All that a program prints for the script on its standard input."""
-    done = subprocess.run(command(crate), input=script, **options())
+    done = subprocess.run(command(crate), input=script, stdout=subprocess.PIPE)
     judge(crate, done.returncode)
     return done.stdout
 
 
 def lines(crate, script):
     """The lines that a program prints for the script on its standard input, as they come."""
-    with subprocess.Popen(command(crate), stdin=subprocess.PIPE, **options()) as process:
+    with subprocess.Popen(command(crate), stdin=subprocess.PIPE, stdout=subprocess.PIPE) as process:
         try:
             feed(process.stdin, script)
             for line in process.stdout:

@@ -28,10 +28,10 @@
 //! # What is linked
 //!
 //! The clock itself is in `libsd2068_abi.a`, whose functions are proved to follow the rules; this
-//! package is a thin wrapper of them and is not proved. `rt staticlib sd2068_abi` writes the
-//! archive to `target/staticlib` of the repository, where the build looks for it; the environment
-//! variable `TALLOWREED_ARCHIVE_DIR` names another folder, by its whole path or as seen from this
-//! package. The archive is for x86-64 Linux. `cargo check` needs none and works on every machine.
+//! package is a thin wrapper of them and is not proved. `tools/archive` writes the archive to
+//! `target/staticlib` of the repository, where the build looks for it; the environment variable
+//! `TALLOWREED_ARCHIVE_DIR` names another folder, by its whole path or as seen from this package.
+//! The archive is for x86-64 Linux. `cargo check` needs none and works on every machine.
 
 #![deny(missing_docs, unsafe_code)]
 #![warn(clippy::all, clippy::pedantic)]
