@@ -14,18 +14,21 @@ from pathlib import Path
 from clock import PATIENCE, ROOT, Tries, cloned, wait_for
 from parts import PARTS, REFUSALS
 
-# What rt prints in a run from nothing: two libraries and a program, an edit of each library.
+# What rt ci prints for two libraries and a program, an edit of each library.
 RT_LINES = """\
+== one
 library one
-rt: one proved (1 s)
-rt: two proved (1 s)
-rt: three proved (1 s)
-rt: must-fail one/a: refused, as it must be (1 s)
-rt: must-fail two/b: refused, as it must be (1 s)
-rt: three ran as nobody, and wrote what its file 'stdout' has (0 s)
-rt: ok, 3 crates proved, 2 must-fail edits refused
+rt: one proved
+rt: three proved
+rt: two is kept: an earlier run on this machine proved the same files over the same libraries
+rt: must-fail one/a.edit: refused, as it must be: proofs/F/Answers.antt:1:1: error
+rt: must-fail two/b.edit: refused, as it must be
+rt: three ran, and wrote what its file stdout has
+rt: three ran (built by Rattle's own compiler), and wrote what its file stdout has
+rt: ok; handles allowed: none; must-fail edits: 2 refused; every proof and must-fail edit was done in this run
 5 passed, 0 failed
 """
+BUILT = "3 of 3 crates ok"
 OWN = ("test", "tests/run.py", "tests/parts.py")
 
 
@@ -41,18 +44,29 @@ TESTS = tests_of(REFUSALS, *(call for part in PARTS for call in part.calls + (pa
 class Copy:
     """A copy of ./test among stand-ins, each of which notes its call; what is named here fails, or says other lines."""
 
-    def __init__(self, folder, failing=(), rt=RT_LINES, rt_status=0):
+    # rt ci ends with its lines and status, rt all test with that one line and, where it is said to fail, with 1.
+    RT = """\
+        case $1 in
+        all) echo "%s"; exit %d ;;
+        esac
+        cat <<"TEXT"
+%sTEXT
+        exit %d
+        """
+
+    def __init__(self, folder, failing=(), rt=RT_LINES, rt_status=0, built_status=0):
         self.folder = Path(folder)
         for name in OWN:
             (self.folder / name).parent.mkdir(exist_ok=True)
             shutil.copy(ROOT / name, self.folder / name)
         for name in (*TESTS, "tools/program", "bin/cargo", "bin/gcc", "bin/g++"):
             self.put(name, "exit 1\n" if name in failing else "")
-        self.put("bin/rt", 'case $1 in fmt) exit ;; esac\ncat <<"TEXT"\n%sTEXT\nexit %d\n' % (rt, rt_status))
+        self.put("bin/rt", self.RT % (BUILT, built_status, rt, rt_status))
         (self.folder / "bin" / "python3").symlink_to(sys.executable)
         self.path = "%s:%s" % (self.folder / "bin", os.environ["PATH"])
         self.put("target/mark", "")
-        self.put("crates/one/wrong/c.edit", "")
+        for name in ("one/must-fail/a.edit", "two/must-fail/b.edit", "one/wrong/c.edit"):
+            self.put("crates/%s" % name, "")
 
     def put(self, name, lines):
         path = self.folder / name
@@ -108,26 +122,26 @@ def try_missing(tries):
 
 
 def try_whole(tries):
-    """Everything, from nothing: rt's lines, the table, and the count as the last line."""
+    """Everything: rt's lines, the table, and the count as the last line."""
     status, out, err, calls = copied(tries, "everything")
     tries.same("everything", (status, err), (0, ""))
     tries.same("rt's lines", RT_LINES.rpartition("5 passed")[0] in out, True)
     tries.same("the last line", out.splitlines()[-1], "5 passed, 0 failed")
     tries.same("the count stands there once", out.count("passed, 0 failed"), 1)
     rows = [line[8:32].strip() for line in out.splitlines()[-7:-1]]
-    owed = ["proofs", "rt's must-fail edits", "programs", "wrong programs", "tests", "all"]
+    owed = ["rt ci, proofs", "rt ci, programs", "rt all test", "wrong programs", "tests", "all"]
     tries.same("the table", rows, owed)
-    counts = [line.split()[-1] for line in out.splitlines()[-7:-3]]
-    tries.same("how many of each", counts, ["3", "2", "1", "1"])
-    tries.same("rt", [call for call in calls if call.startswith("bin/rt")], ["bin/rt fmt --check", "bin/rt ci"])
+    counts = [line[38:].strip() for line in out.splitlines()[-7:-3]]
+    tries.same("how many of each", counts, ["3 crates, 2 must-fail edits", "2 runs", "", "1"])
+    tries.same("rt", [call for call in calls if call.startswith("bin/rt")], ["bin/rt ci", "bin/rt all test"])
     tries.same("every test", TESTS - {call.split()[0] for call in calls}, set())
 
 
 def try_quick(tries):
-    status, out, err, calls = copied(tries, "quick", "quick", rt="rt: one proved (1 s)\nrt: ok, 1 crates proved\n")
-    tries.same("quick", (status, err), (0, ""))
+    status, out, err, calls = copied(tries, "quick", "quick")
+    tries.same("quick", (status, err, BUILT in out), (0, "", True))
     tries.same("it gives no count", ("passed, 0 failed" in out, out.splitlines()[-1]), (False, "test: quick: all parts passed"))
-    tries.same("rt again", [call for call in calls if call.startswith("bin/rt")], ["bin/rt fmt --check", "bin/rt check"])
+    tries.same("rt again", [call for call in calls if call.startswith("bin/rt")], ["bin/rt all test"])
 
 
 def try_failing(tries):
@@ -137,6 +151,8 @@ def try_failing(tries):
         tries.same(name, (status, "passed, 0 failed" in out, err[:6], err.count("\n")), (1, False, "test: ", 1))
     for name, lines, ends in (
         ("a crate that fails", RT_LINES.replace("5 passed, 0", "4 passed, 1"), 1),
+        ("a bad edit", RT_LINES.replace("2 refused;", "1 refused, 1 bad;"), 0),
+        ("an edit that is not told", RT_LINES.replace("; must-fail edits: 2 refused", ""), 0),
         ("no count", RT_LINES.replace("5 passed, 0 failed\n", ""), 0),
         ("a count of failures", RT_LINES.replace("5 passed, 0", "4 passed, 1"), 0),
         ("nothing at all", "", 0),
@@ -144,6 +160,8 @@ def try_failing(tries):
     ):
         status, out, err, calls = copied(tries, name, rt=lines, rt_status=ends)
         tries.same(name, (status, " failed\n" in out, "tests/refusals.py" in calls), (1, False, False))
+    status, out, err, _ = copied(tries, "what the tests stand on", built_status=1)
+    tries.same("what the tests stand on", (status, " passed" in out, err), (1, False, BUILT + "\ntest: rt all test failed\n"))
     status, _, err, _ = copied(tries, "a bad crates.txt", rt="rt: crates.txt: bad\n", rt_status=2)
     tries.same("why rt did not begin", (status, err), (1, "rt: crates.txt: bad\ntest: rt ci failed\n"))
 
@@ -152,7 +170,7 @@ def try_progress(tries):
     """A line of rt's is seen before rt has ended."""
     with tempfile.TemporaryDirectory() as folder:
         copy = Copy(folder)
-        copy.put("bin/rt", 'case $1 in fmt) exit ;; esac\necho early\necho second\nwhile [ ! -e go ]; do sleep 0.1; done\nexit 1\n')
+        copy.put("bin/rt", "echo early\necho second\nwhile [ ! -e go ]; do sleep 0.1; done\nexit 1\n")
         env = {**os.environ, "PATH": copy.path}
         with subprocess.Popen([copy.folder / "test"], stdout=subprocess.PIPE, stderr=subprocess.DEVNULL, env=env) as process:
             seen = next((line for line in process.stdout if line == b"early\n"), None)
@@ -161,22 +179,19 @@ def try_progress(tries):
 
 
 def try_stopped(tries):
-    """A run that is stopped ends all that it has begun, and leaves no temporary folder."""
+    """A run that is stopped ends all that it has begun."""
     with tempfile.TemporaryDirectory() as folder:
         copy = Copy(folder)
-        # A child would make the folder anew if it lived on; it also notes that it lives.
-        busy = '(while :; do mkdir -p "$TMPDIR/a"; date >"$TMPDIR/a/$(date +%N)"; date +%N >beat; done) &\nwait\n'
-        copy.put("bin/rt", 'case $1 in fmt) exit ;; esac\necho "$TMPDIR" >folder\n' + busy)
-        env = {name: value for name, value in os.environ.items() if name != "TMPDIR"}
-        process = subprocess.Popen([copy.folder / "test"], stdout=subprocess.DEVNULL, env={**env, "PATH": copy.path})
+        # A child that notes that it lives.
+        copy.put("bin/rt", "(while :; do date +%N >beat; done) &\nwait\n")
+        env = {**os.environ, "PATH": copy.path}
+        process = subprocess.Popen([copy.folder / "test"], stdout=subprocess.DEVNULL, env=env)
         wait_for(copy.folder / "beat")
         process.terminate()
         tries.same("stopped", process.wait(timeout=PATIENCE), 1)
         beat = (copy.folder / "beat").read_text()
         time.sleep(0.3)
         tries.same("its child", (copy.folder / "beat").read_text(), beat)
-        used = (copy.folder / "folder").read_text().strip()
-        tries.same("its folder %s" % used, bool(used) and Path(used).exists(), False)
 
 
 def try_stopped_beside(tries):
@@ -217,19 +232,20 @@ def try_program(tries):
 def try_how_far(tries):
     """Each crate that is proved is told as it comes, out of all that the program is made of."""
     clone = cloned(clock="cat >/dev/null; echo built")
-    clone.put("crates.txt", "a:\nb: a # low\nother: b\nclock: a b io\n")
-    far = "echo noise\necho 'rt: a proved (2 s)'\necho 'rt: b proved (unchanged since)'\n"
-    clone.put("bin/rt", far + "while [ ! -e go ]; do sleep 0.1; done\n" + clone.RT + "echo 'rt: ok'\n")
+    clone.put("crates.txt", "a:\nb: a # low\nother staticlib: b\nclock: a b json\n")
+    far = "echo 'rt: chose 2 at a time'\necho noise\necho '== a'\necho 'rt: how far'\necho '== b'\n"
+    ends = "echo '== clock'\necho '== summary'\necho 'a: ok'\n"
+    clone.put("bin/rt", far + "while [ ! -e ../../go ]; do sleep 0.1; done\n" + clone.RT + ends)
     pipes = {"stdin": subprocess.DEVNULL, "stdout": subprocess.PIPE, "stderr": subprocess.PIPE, "env": clone.options["env"]}
     with subprocess.Popen([clone.folder / "tools" / "program", "clock"], **pipes) as process:
-        said = [process.stderr.readline() for _ in range(3)]
+        said = [process.stderr.readline() for _ in range(4)]
         time.sleep(0.2)
         tries.same("rt has not ended", process.poll(), None)
         (clone.folder / "go").touch()
         said += process.stderr.readlines()
         tries.same("the program's output", process.stdout.read(), b"built\n")
     first = b"clock: proving and building 3 crates, which takes some 45 s on two processors the first time\n"
-    crates = [b"clock: 1 of 3, a proved (2 s)\n", b"clock: 2 of 3, b proved (unchanged since)\n", b"rt: ok\n"]
+    crates = [b"clock: 1 of 3, a\n", b"rt: how far\n", b"clock: 2 of 3, b\n", b"clock: 3 of 3, clock\n"]
     tries.same("how far it is", said, [first, *crates])
 
 

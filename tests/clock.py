@@ -125,31 +125,27 @@ def last_line(seen):
 class Clone:
     """A copy of the command, with a kit whose rt builds the programs that are given here as shell scripts."""
 
+    # It is called in the crate's folder.
     RT = """\
-        echo "$2" >>calls
+        name=${PWD##*/}
+        echo "$name" >>../../calls
         sleep 0.5
-        mkdir -p target/bin
-        cp "programs/$2" target/bin/
-        """
-    # As it is called: the loader, its option, the library and then the program.
-    EMULATOR = """\
-        shift 3
-        exec "$@"
+        mkdir -p out
+        cp "../../programs/$name" out/
         """
 
     def __init__(self, folder, **programs):
         self.folder, self.clock = Path(folder), Path(folder) / "clock"
         shutil.copy(CLOCK, self.clock)
         shutil.copytree(ROOT / "tools", self.folder / "tools")
-        self.put("crates.txt", "".join(f"{name}: io libc\n" for name in programs))
+        self.put("crates.txt", "".join(f"{name}:\n" for name in programs))
         self.put("bin/rt", self.RT)
-        self.put(f"kit/on/{os.uname().machine}/toolchain/bin/qemu-x86_64", self.EMULATOR)
         for name, lines in programs.items():
             for part in ("src/main.rt", "specs/Specs.antt", "proofs/Proofs.antt"):
                 self.put(f"crates/{name}/{part}", "")
             self.put(f"programs/{name}", lines)
-        settings = {"PATH": f"{self.folder / 'bin'}:{os.environ['PATH']}", "RATTLE_HOME": str(self.folder / "kit")}
-        self.options = {"clock": self.clock, "env": {**os.environ, **settings}}
+        env = {**os.environ, "PATH": f"{self.folder / 'bin'}:{os.environ['PATH']}"}
+        self.options = {"clock": self.clock, "env": env}
 
     def put(self, name, lines):
         path = self.folder / name
@@ -474,7 +470,7 @@ def try_building(tries):
     clone.put("bin/rt", "echo 'rt: how far'\necho 'what is wrong'\nexit 1")
     os.utime(clone.folder / "crates/clock/src/main.rt", (time.time() + 2,) * 2)
     log = clone.folder / "target" / "clock.log"
-    says = BUILDS + f"rt: how far\nclock: rt check clock failed: {log} has what it said\n".encode()
+    says = BUILDS + f"rt: how far\nclock: rt all test failed in crates/clock: {log} has what it said\n".encode()
     tries.same("a proof that fails", clone.run(EXAMPLE), (2, b"", says))
     tries.same("its log", log.read_text(), "rt: how far\nwhat is wrong\n")
 
@@ -499,15 +495,15 @@ def try_without_rt(tries):
     tools = clone.folder / "only"
     tools.mkdir()
     (tools / "python3").symlink_to(sys.executable)
-    for name in ("sh", "dirname", "readlink", "find", "uname", "env", "sed"):
+    for name in ("sh", "dirname", "readlink", "find", "uname"):
         (tools / name).symlink_to(shutil.which(name))
     tries.complains("no rt", clone.run(EXAMPLE, env={"PATH": str(tools)}), b"clock: rt is missing")
 
 
 def try_settings(tries):
-    """What the caller has set for the emulator or for Python changes nothing."""
-    clone = cloned(clock="cat >/dev/null; env | sed -n 's/^QEMU_.*/set/p'; echo run")
-    clone.options["env"].update(QEMU_CPU="none", QEMU_STRACE="1", PYTHONPATH=str(clone.folder / "shadow"))
+    """What the caller has set for Python changes nothing."""
+    clone = cloned(clock="cat >/dev/null; echo run")
+    clone.options["env"].update(PYTHONPATH=str(clone.folder / "shadow"))
     clone.put("shadow/scripts/__init__.py", "raise SystemExit(7)")
     clone.build()
     tries.same("the caller's settings", clone.run(EXAMPLE), (0, b"run\n", b""))

@@ -53,7 +53,7 @@ PARTS = (
     Part(
         "layout",
         "the layout of the sources, by rt fmt",
-        (Call(("rt", "fmt", "--check"), "a source is not in rt's layout: run rt fmt"),),
+        (python("a source is not in rt's layout: run rt fmt in its crate", "tests/layout.py"),),
     ),
     Part(
         "pages",

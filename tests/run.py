@@ -19,12 +19,13 @@ from parts import BEFORE_RT, PARTS, REFUSALS
 HELP = """\
 usage: ./test [quick | PART ..]
 
-Without a word everything is tried, from nothing: `rt ci` removes target/, proves every crate, tries rt's must-fail
-edits and runs the programs; then come all the parts below. A table says how long each took. The last line is rt's
-count, `N passed, 0 failed`, and it is printed only if all of it passed.
+Without a word everything is tried: `rt ci` proves every crate, tries rt's must-fail edits and runs the programs, and
+takes nothing from earlier runs but its own verdicts, on this machine, of the same files; then come all the parts below,
+over what `rt all test` builds for them. A table says how long each took. The last line is rt's count, `N passed, 0
+failed`, and it is printed only if all of it passed.
 
-  quick   everything over what is built: rt proves again only what has changed, wrong programs are tried where they or
-          their crates have changed since they were refused, and fewer random files and steps are compared
+  quick   everything but `rt ci`, over what is built: rt proves again only what has changed, wrong programs are tried
+          where they or their crates have changed since they were refused, and fewer random files and steps are compared
   PART    these parts alone, as quick has them
 
 The parts:
@@ -35,11 +36,12 @@ what each part compares with what, and how long it takes.
 """
 NEEDED = ("rt", "python3", "cargo", "gcc", "g++")
 COUNT = re.compile(r"[1-9][0-9]* passed, 0 failed")
-# A folder of Linux whose files are held in memory.
-MEMORY = "/dev/shm"
-GIB = 2**30
+# The lines of rt ci that tell of a crate, of a must-fail edit and of a program, and of edits where all is well.
+CRATE = re.compile(r"rt: \w+ (proved|NOT PROVED|is kept)\b")
+EDIT = re.compile(r"rt: must-fail \S+: ")
+PROGRAM = re.compile(r"rt: \w+ ran\b")
+REFUSED = re.compile(r"rt: ok; .*\bmust-fail edits: ([0-9]+) refused\b")
 PROCESSORS = os.cpu_count() or 1
-PROOFS, EDITS, PROGRAMS = "proofs", "rt's must-fail edits", "programs"
 # One part's output at a time.
 SHOWING = threading.Lock()
 # The process groups of what was begun and has not ended, and whether nothing more is to be begun.
@@ -75,7 +77,7 @@ def begun(words, **options):
 
 
 def end_all():
-    """Nothing that was begun outlives this, or writes into the temporary folder while that is removed."""
+    """Nothing that was begun outlives this."""
     with BEGINNING:
         STOPPING.set()
         for group in RUNNING:
@@ -131,64 +133,65 @@ def tried_all(parts, whole=False):
 
 # rt
 
-class Watched(NamedTuple):
-    """What rt did: its last line; for each of its phases when it ended, and of how many things it told."""
+class Line(NamedTuple):
+    """A line of rt's, and when it came."""
 
-    last: str
-    ends: dict
-    counts: dict
-
-
-def phase_of(line):
-    """What a line of rt's is about, if it tells of one thing done."""
-    if re.match(r"rt: must-fail \S+: ", line):
-        return EDITS
-    if re.match(r"rt: \w+ (ran|proved, and its run)\b", line):
-        return PROGRAMS
-    return PROOFS if re.match(r"rt: \w+ (proved|NOT PROVED)\b", line) else None
+    text: str
+    time: float
 
 
 def watched(*words):
-    """Shows rt's output as it comes, but for its last line."""
-    done = Watched("", {}, {})
-    phase, held = PROOFS, b""
+    """Shows rt's output as it comes, but for its last line: all of its lines."""
+    lines, held = [], b""
     with begun(["rt", *words], stdout=subprocess.PIPE, stderr=subprocess.STDOUT) as rt:
         for line in rt.stdout:
             sys.stdout.buffer.write(held)
             sys.stdout.flush()
             held = line
-            about = phase_of(line.decode("utf-8", "replace"))
-            phase = about or phase
-            done.ends[phase] = time.monotonic()
-            done.counts[phase] = done.counts.get(phase, 0) + bool(about)
-    last = held.decode("utf-8", "replace").rstrip("\n")
+            lines.append(Line(line.decode("utf-8", "replace").rstrip("\n"), time.monotonic()))
+    last = lines[-1].text if lines else ""
     if rt.wait() != 0:
         # A count is held back, but where rt could not even begin its last line says why.
         if not re.fullmatch(r"[0-9]+ passed, [0-9]+ failed", last):
             print(last, file=sys.stderr)
         raise Failed("rt %s failed" % " ".join(words))
-    return done._replace(last=last)
+    return lines, last
+
+
+def telling(lines, what):
+    return [line for line in lines if what.match(line.text)]
+
+
+def judge_edits(lines):
+    """rt ci passes over an edit that cannot be tried, and only counts it: here each has to be refused."""
+    refused = sum(int(REFUSED.match(line.text)[1]) for line in telling(lines, REFUSED))
+    edits = len(list(Path("crates").glob("*/must-fail/*.edit")))
+    if refused != edits:
+        raise Failed("rt ci refused %d of the %d must-fail edits" % (refused, edits))
 
 
 def proved():
-    """rt's verdict on all crates, from nothing: its count, and the rows of its phases."""
+    """rt's verdict on all crates: its count, and the rows of its phases."""
     began = time.monotonic()
-    done = watched("ci")
-    if not COUNT.fullmatch(done.last):
+    lines, last = watched("ci")
+    ended = time.monotonic()
+    if not COUNT.fullmatch(last):
         raise Failed("rt ci did not end in a count of passes alone")
-    rows = []
-    for phase, end in done.ends.items():
-        rows.append(Row(phase, end - began, str(done.counts[phase])))
-        began = end
+    judge_edits(lines)
     called(REFUSALS)
-    return done.last, rows
+    crates, edits, programs = (telling(lines, what) for what in (CRATE, EDIT, PROGRAM))
+    # Programs are run behind all else.
+    last_proof = max((line.time for line in crates + edits), default=ended)
+    about = "%d crates, %d must-fail edits" % (len(crates), len(edits))
+    rows = [Row("rt ci, proofs", last_proof - began, about)]
+    return last, rows + [Row("rt ci, programs", ended - last_proof, "%d runs" % len(programs))]
 
 
-def as_built():
-    """The same over what is built, without rt's must-fail edits."""
+def built():
+    """What the tests stand on: rt keeps nothing of its verdict that other commands could take."""
     began = time.monotonic()
-    print(watched("check").last, flush=True)
-    return None, [Row("proofs and programs", time.monotonic() - began)]
+    print(watched("all", "test")[1], flush=True)
+    return Row("rt all test", time.monotonic() - began)
 
 
 # The table
@@ -201,7 +204,7 @@ class Row(NamedTuple):
 
 def show(rows):
     """What took how long. A part that is tried beside others takes longer than it would alone."""
-    say("seconds on %d processors, where rt has %s checks at a time:" % (PROCESSORS, os.environ["RT_JOBS"]))
+    say("seconds on %d processors:" % PROCESSORS)
     for row in rows:
         say("  %-24s%6d  %s" % (row.name, row.seconds, row.about))
 
@@ -212,37 +215,12 @@ def seconds(took):
 
 # The call
 
-@contextlib.contextmanager
-def settings():
-    """How many checks at a time, and a temporary folder in memory, where there is room: the prover copies much into it."""
-    os.environ["CARGO_TARGET_DIR"] = os.path.abspath("harness/target")
-    memory = os.sysconf("SC_PAGE_SIZE") * os.sysconf("SC_PHYS_PAGES")
-    # Two for each processor, since rt waits for all that it has begun together; one takes up to 2 GiB.
-    os.environ.setdefault("RT_JOBS", str(max(1, min(2 * PROCESSORS, memory // (3 * GIB)))))
-    if "TMPDIR" in os.environ or not has_room():
-        yield
-        return
-    with tempfile.TemporaryDirectory(prefix="test-", dir=MEMORY) as folder:
-        # rt runs programs there as nobody.
-        os.chmod(folder, 0o711)
-        os.environ["TMPDIR"] = tempfile.tempdir = folder
-        yield
-
-
-def has_room():
-    """Whether a folder in memory can hold what some checks copy, and programs can be run there."""
-    try:
-        held = os.statvfs(MEMORY)
-    except OSError:
-        return False
-    return held.f_bavail * held.f_frsize >= 4 * GIB and not held.f_flag & os.ST_NOEXEC
-
-
 def everything(whole):
-    """All parts, those that ask for nothing built before rt; the last line is rt's, where it began from nothing."""
+    """All parts, those that ask for nothing built before rt; the last line is that of rt's verdict, where it gave one."""
     began = time.monotonic()
     took = tried_all(PARTS[:BEFORE_RT], whole)
-    last, rows = proved() if whole else as_built()
+    last, rows = proved() if whole else (None, [])
+    rows += [built()]
     took.update(tried_all(PARTS[BEFORE_RT:], whole))
     wrong = took.pop("wrong")
     spent = time.monotonic() - began
@@ -260,14 +238,14 @@ def some(names):
 
 def judged(words):
     """Tries what the words of a call ask for."""
-    with settings():
-        try:
-            if not words or words == ["quick"]:
-                everything(not words)
-            else:
-                some(words)
-        finally:
-            end_all()
+    os.environ["CARGO_TARGET_DIR"] = os.path.abspath("harness/target")
+    try:
+        if not words or words == ["quick"]:
+            everything(not words)
+        else:
+            some(words)
+    finally:
+        end_all()
 
 
 def complaint(words):
