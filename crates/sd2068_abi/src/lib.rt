@@ -18,16 +18,14 @@ mod ran;
 const NO_PLACE: u8 = 255;
 
 // The length of a state. (rule 10.1)
-#[unsafe(no_mangle)]
-pub extern "C" fn tallowreed_state_size() -> usize
+pub fn tallowreed_state_size() -> usize
     ensures { result ≡ 61 }
 {
     61
 }
 
 // Power-on from start bytes. (rule 10.4)
-#[unsafe(no_mangle)]
-pub extern "C" fn tallowreed_power_on(start: &[u8], state: &mut [u8]) -> u8
+pub fn tallowreed_power_on(start: &[u8], state: &mut [u8]) -> u8
     ensures { lent result state.new ≡ power_of start.now state.old }
 {
     if state.len() != 61 {
@@ -41,8 +39,7 @@ pub extern "C" fn tallowreed_power_on(start: &[u8], state: &mut [u8]) -> u8
 }
 
 // One event. (rule 10.5)
-#[unsafe(no_mangle)]
-pub extern "C" fn tallowreed_step(state: &mut [u8], kind: u8, byte: u8, count: u16) -> u32
+pub fn tallowreed_step(state: &mut [u8], kind: u8, byte: u8, count: u16) -> u32
     ensures { lent result state.new ≡ step_of state.old kind byte count }
 {
     if state.len() != 61 {
@@ -56,8 +53,7 @@ pub extern "C" fn tallowreed_step(state: &mut [u8], kind: u8, byte: u8, count: u
 }
 
 // The pin. (rule 10.6)
-#[unsafe(no_mangle)]
-pub extern "C" fn tallowreed_pin(state: &[u8]) -> u32
+pub fn tallowreed_pin(state: &[u8]) -> u32
     ensures { result ≡ pin_of state.now }
 {
     if state.len() != 61 {
@@ -68,8 +64,7 @@ pub extern "C" fn tallowreed_pin(state: &[u8]) -> u32
 }
 
 // A register as it stands. (rule 10.7)
-#[unsafe(no_mangle)]
-pub extern "C" fn tallowreed_register(state: &[u8], address: u8) -> u32
+pub fn tallowreed_register(state: &[u8], address: u8) -> u32
     ensures { result ≡ register_of state.now address }
 {
     if state.len() != 61 {
@@ -91,8 +86,7 @@ fn seen(state: &[u8], clock: Clock, answer: Answer) -> u32
 }
 
 // A whole script file. (rule 10.8)
-#[unsafe(no_mangle)]
-pub extern "C" fn tallowreed_run(file: &[u8], output: &mut [u8], state: &mut [u8]) -> u64
+pub fn tallowreed_run(file: &[u8], output: &mut [u8], state: &mut [u8]) -> u64
     ensures { lent_run result output.new state.new ≡ run_of file.now output.old state.old }
 {
     if state.len() != 61 {
