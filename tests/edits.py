@@ -34,14 +34,14 @@ class Edit(NamedTuple):
 
     @property
     def proof(self):
-        """The file in which it is to be refused."""
+        """The function in whose proof, or the file in which, it is to be refused."""
         return (comment(self.text, "Refused in") or "").rpartition(", ")[0]
 
     @property
     def body(self):
         """The function whose body is all that it changes, by its file and its place there; or None."""
         found = {body_with(self.crate, file, old) for file, old, _ in self.pairs}
-        return found.pop() if len(found) == 1 and self.proof.endswith("/Proof.antt") else None
+        return found.pop() if len(found) == 1 and "::" in self.proof else None
 
 
 def read(crate, file):

@@ -2,10 +2,9 @@
 
 usage: python3 tests/wrong_programs.py [--alone] [--again] [--rt] [--jobs N] [--edits FOLDER] [NAME | NAME/LABEL ..]
 
-An edit has the form of rt's must-fail edits and is applied to a copy of its crate. The prover takes each module that
-the edit leaves as it was from the library that rt has built, target/rlib/NAME.rlib, and checks the others: seconds,
-where rt proves the whole crate again. First the crate is checked so without an edit, and has to be proved; what is
-refused after that is refused for its edit.
+An edit has the form of rt's must-fail edits and is applied to a copy of its crate. First `rt check` proves the crate as
+it stands, and those below it; what is refused after that is refused for its edit. The prover then takes each module
+that the edit leaves as it was from what that check kept in crates/NAME/out, and checks the others.
 
 A function's proof rests on its own body and on what the contracts of others say, never on their bodies. So edits of
 several functions' bodies are tried in one copy, at most one of a function, and each has to be refused in the proof that
@@ -22,6 +21,7 @@ import re
 import shutil
 import subprocess
 import sys
+import tempfile
 import time
 from concurrent.futures import ThreadPoolExecutor
 from pathlib import Path
@@ -30,8 +30,6 @@ import edits as texts
 from edits import CRATES, PARTS, Bad
 from refusals import errors, misplaced, unsaid
 
-BUILT = Path("target/rlib")
-STAMPS = Path("target/stamp")
 PLACE = Path("target/wrong")
 SEALS = PLACE / "refused"
 OWN = ("wrong_programs.py", "edits.py", "refusals.py")
@@ -59,70 +57,62 @@ def dependencies(crate):
     return named.group(1).split()
 
 
-def check(crate, folder, modules):
-    """Checks a library that lies in a folder as `rt dev` does: the status, and the log of what was said."""
+def check(crate, folder, kept):
+    """Checks a library that lies in a folder, over what a check of it kept: the status, and what was said."""
     home = kit()
-    own = home / "on" / os.uname().machine
-    words = [own / "bin/rattle", "check", "--crate-name", crate, (folder / "src/lib.rt").resolve()]
-    words += ["--extern", "std=%s" % (own / "rlib/std.rlib")]
+    words = [home / "bin/rattle", "check", "--crate-name", crate, "src/lib.rt"]
+    words += ["--extern", "std=%s" % (home / "rlibs/std.rlib"), "-L", "dependency=%s" % (home / "rlibs")]
     for needed in dependencies(crate):
-        built = BUILT.resolve() if (CRATES / needed / "src").is_dir() else own / "rlib"
-        words += ["--extern", "%s=%s" % (needed, built / (needed + ".rlib"))]
-    words += ["-L", "dependency=%s" % BUILT.resolve(), "-L", "dependency=%s" % (own / "rlib")]
-    words += ["--antt-project", home / "logic/antt-project.json", "--logic-built", own / "logic-built"]
-    words += ["--incremental", modules.resolve()]
-    log = modules.with_suffix(".log") if folder.parent == CRATES else folder / ".log"
-    with open(log, "wb") as said:
-        status = subprocess.run(list(map(str, words)), stdout=said, stderr=subprocess.STDOUT).returncode
-    return status, log
+        own = CRATES / needed / "out/rlib" if (CRATES / needed / "src").is_dir() else home / "rlibs"
+        words += ["--extern", "%s=%s" % (needed, own.resolve() / (needed + ".rlib"))]
+        words += ["-L", "dependency=%s" % own.resolve()]
+    words += ["--antt-project", home / "rattle/logic/antt-project.json", "--logic-built", home / "logic_built"]
+    words += ["--jobs", "1", "--links", crate + "=", "--incremental", kept.resolve()]
+    how = {"stdin": subprocess.DEVNULL, "stdout": subprocess.PIPE, "stderr": subprocess.STDOUT}
+    done = subprocess.run(list(map(str, words)), cwd=folder, encoding="utf-8", errors="replace", **how)
+    return done.returncode, done.stdout
 
 
 def linked(folder, into):
-    """The same files in another folder; the prover replaces a file and never writes into one."""
-    into.mkdir(parents=True)
-    for entry in os.scandir(folder):
-        if entry.is_dir():
-            linked(Path(entry.path), into / entry.name)
-        else:
-            os.link(entry.path, into / entry.name)
+    """The same files in another folder: what was proved by a second name, since the prover replaces such a file."""
+
+    def given(one, other):
+        (os.link if one.endswith(".oantt") else shutil.copy2)(one, other)
+
+    shutil.copytree(folder, into, copy_function=given)
 
 
 def base(crate):
-    """Leaves the folder from which the prover takes a crate's modules, and tells how many it takes without an edit."""
-    library = BUILT / (crate + ".rlib")
-    if not library.is_dir():
-        raise Missing("%s is not there: run rt check" % library)
-    modules = PLACE / (crate + ".modules")
-    shutil.rmtree(PLACE / crate, ignore_errors=True)
-    shutil.rmtree(modules, ignore_errors=True)
-    modules.mkdir(parents=True)
-    # A library has its checked modules; a check looks for them in a folder that the build of the prover names.
-    build = re.search(r"^rattle-build (\S+)$", (library / "format").read_text(encoding="utf-8"), re.MULTILINE)
-    if build and (library / "toolchain/checked").is_dir():
-        linked(library / "toolchain/checked", modules / build.group(1).replace("/", "_"))
-    status, log = check(crate, CRATES / crate, modules)
-    said = log.read_text(encoding="utf-8", errors="replace")
-    if status != 0 or not re.search(r"^logic=proved ", said, re.MULTILINE):
+    """Has rt prove a crate, and leaves what it kept of it where the edits' checks begin."""
+    log = PLACE / (crate + ".log")
+    log.parent.mkdir(parents=True, exist_ok=True)
+    with open(log, "wb") as said:
+        status = subprocess.run(["rt", "check"], cwd=CRATES / crate, stdout=said, stderr=subprocess.STDOUT).returncode
+    told = log.read_text(encoding="utf-8", errors="replace")
+    if status != 0 or not re.search(r"^logic=proved ", told, re.MULTILINE):
         raise Missing("%s is not proved without an edit: see %s" % (crate, log))
-    taken = re.search(r"^crate %s: modules (.*)$" % crate, said, re.MULTILINE)
+    shutil.rmtree(PLACE / crate, ignore_errors=True)
+    linked(CRATES / crate / "out/incremental", PLACE / crate / "base")
+    taken = re.search(r"^crate %s: modules (.*)$" % crate, told, re.MULTILINE)
     return "%s: proved without an edit, modules %s" % (crate, taken.group(1) if taken else "not told")
 
 
 def tried(edits, label):
-    """The prover's errors in a copy of a crate with some edits in it."""
-    folder = PLACE / edits[0].crate / label
-    texts.copy(edits, folder)
-    modules = folder.with_suffix(".modules")
-    shutil.rmtree(modules, ignore_errors=True)
-    linked(PLACE / (edits[0].crate + ".modules"), modules)
-    status, log = check(edits[0].crate, folder, modules)
-    shutil.rmtree(modules)
-    said = log.read_text(encoding="utf-8", errors="replace")
+    """The prover's errors in a copy of a crate with some edits in it; what was said stays in a log."""
+    crate = edits[0].crate
+    kept = PLACE / crate / label
+    with tempfile.TemporaryDirectory(prefix="wrong-") as room:
+        texts.copy(edits, Path(room, crate))
+        shutil.rmtree(kept, ignore_errors=True)
+        linked(PLACE / crate / "base", kept)
+        status, said = check(crate, Path(room, crate), kept)
+    shutil.rmtree(kept)
+    kept.with_suffix(".log").write_text(said, encoding="utf-8")
     if status == 0:
         raise Bad("NOT REFUSED: the crate is still proved")
     if status != 1 or not re.search(r"^logic=not-proved", said, re.MULTILINE):
         raise Bad("it does not reach the prover (exit %d): %s" % (status, said.partition("\n")[0]))
-    return errors(log)
+    return errors(crate, said)
 
 
 # The edits
@@ -140,7 +130,7 @@ def alone(edit):
 
 def beside(edit, found):
     """Whether an edit, tried beside others, is refused for its reason by the proof that it names."""
-    found = [(file, message) for file, message in found if file == edit.proof]
+    found = [(where, message) for where, message in found if where.rpartition(", ")[0] == edit.proof]
     # A proof may also rest on what another edit made fail, which shows nothing.
     return found and "was not admitted" not in found[0][1] and not (unsaid(edit.text) or misplaced(edit.text, found))
 
@@ -172,17 +162,17 @@ def groups(edits):
 
 def judged(edits, jobs, apart):
     """Why each edit that fails does, and in how many checks all were tried."""
-    # The crates with the most modules first, so that no job is left alone with a long check at the end.
-    crates = sorted({e.crate for e in edits}, key=lambda c: -len(list((BUILT / (c + ".rlib")).glob("toolchain/checked/*"))))
+    # The crates with the most below them first, so that no job is left alone with a long check at the end.
+    crates = sorted({e.crate for e in edits}, key=lambda crate: -len(dependencies(crate)))
     shared, single = [], []
     for crate in crates:
         own = [e for e in edits if e.crate == crate]
         batches = [] if apart else groups([e for e in own if e.body])
         shared += [(group, "together-%d" % n) for n, group in enumerate(batches, 1)]
         single += [e for e in own if all(e not in group for group in batches)]
+    for crate in reversed(crates):
+        print(base(crate), flush=True)
     with ThreadPoolExecutor(jobs) as pool:
-        for line in pool.map(base, crates):
-            print(line, flush=True)
         begun = [pool.submit(together, *batch) for batch in shared]
         faults = dict(zip(single, pool.map(alone, single)))
         again = [edit for batch in begun for edit in batch.result()]
@@ -194,11 +184,10 @@ def judged(edits, jobs, apart):
 
 @functools.lru_cache(maxsize=None)
 def ground(crate):
-    """A digest of all that the verdicts on a crate's edits hang on: this test, the crate, and what rt has proved of it."""
-    files = [Path(__file__).parent / own for own in OWN] + [STAMPS / crate]
-    files += sorted(file for part in PARTS for file in (CRATES / crate / part).rglob("*") if file.is_file())
-    if not (STAMPS / crate).is_file():
-        raise Missing("%s is not proved: run rt check" % crate)
+    """A digest of all that the verdicts on a crate's edits hang on: this test, the kit, the crate and those below it."""
+    files = [Path(__file__).parent / own for own in OWN] + [kit() / "KIT-ID"]
+    parts = [CRATES / name / part for name in (crate, *dependencies(crate)) for part in PARTS]
+    files += sorted(file for part in parts for file in part.rglob("*") if file.is_file())
     digest = hashlib.sha256()
     for file in files:
         digest.update(b"%s\0%s\0" % (os.fsencode(file.name), file.read_bytes()))
