@@ -161,7 +161,8 @@ def try_failing(tries):
         status, out, err, calls = copied(tries, name, rt=lines, rt_status=ends)
         tries.same(name, (status, " failed\n" in out, "tests/refusals.py" in calls), (1, False, False))
     status, out, err, _ = copied(tries, "what the tests stand on", built_status=1)
-    tries.same("what the tests stand on", (status, " passed" in out, err), (1, False, BUILT + "\ntest: rt all test failed\n"))
+    owed = (1, False, BUILT + "\ntest: rt all test failed\n")
+    tries.same("what the tests stand on", (status, " passed" in out, err), owed)
     status, _, err, _ = copied(tries, "a bad crates.txt", rt="rt: crates.txt: bad\n", rt_status=2)
     tries.same("why rt did not begin", (status, err), (1, "rt: crates.txt: bad\ntest: rt ci failed\n"))
 
@@ -233,7 +234,8 @@ def try_how_far(tries):
     """Each crate that is proved is told as it comes, out of all that the program is made of."""
     clone = cloned(clock="cat >/dev/null; echo built")
     clone.put("crates.txt", "a:\nb: a # low\nother staticlib: b\nclock: a b json\n")
-    far = "echo 'rt: chose 2 at a time'\necho noise\necho '== a'\necho 'rt: how far'\necho '== b'\n"
+    waits = "rt: waiting for another rt to finish"
+    far = f"echo 'rt: chose 2 at a time'\necho noise\necho '== a'\necho '{waits}'\necho '== b'\n"
     ends = "echo '== clock'\necho '== summary'\necho 'a: ok'\n"
     clone.put("bin/rt", far + "while [ ! -e ../../go ]; do sleep 0.1; done\n" + clone.RT + ends)
     pipes = {"stdin": subprocess.DEVNULL, "stdout": subprocess.PIPE, "stderr": subprocess.PIPE, "env": clone.options["env"]}
@@ -244,9 +246,9 @@ def try_how_far(tries):
         (clone.folder / "go").touch()
         said += process.stderr.readlines()
         tries.same("the program's output", process.stdout.read(), b"built\n")
-    first = b"clock: proving and building 3 crates, which takes some 45 s on two processors the first time\n"
-    crates = [b"clock: 1 of 3, a\n", b"rt: how far\n", b"clock: 2 of 3, b\n", b"clock: 3 of 3, clock\n"]
-    tries.same("how far it is", said, [first, *crates])
+    first = b"clock: proving and building 3 crates, which takes some 120 s on two processors the first time\n"
+    lines = ["clock: 1 of 3, a", waits, "clock: 2 of 3, b", "clock: 3 of 3, clock"]
+    tries.same("how far it is", said, [first, *(f"{line}\n".encode() for line in lines)])
 
 
 def main():

@@ -46,7 +46,7 @@ DOUBTFUL = {
     "a hex dump": (b"05 00 1B 00 13 00 08 00\n", 5),
 }
 # One crate is all that the stand-in for the repository proves.
-BUILDS = b"clock: proving and building 1 crates, which takes some 15 s on two processors the first time\n"
+BUILDS = b"clock: proving and building 1 crates, which takes some 40 s on two processors the first time\n"
 # Nothing takes so many seconds unless it hangs.
 PATIENCE = 120
 
@@ -467,12 +467,12 @@ def try_building(tries):
     os.utime(clone.folder / "crates/clock/src/main.rt", (time.time() + 1,) * 2)
     tries.same("a source that is newer", clone.run(EXAMPLE), (0, b"built\n", BUILDS))
     tries.same("built twice", clone.calls(), ["clock"] * 2)
-    clone.put("bin/rt", "echo 'rt: how far'\necho 'what is wrong'\nexit 1")
+    clone.put("bin/rt", "echo 'what is wrong'\necho 'clock: failed (1)'\nexit 1")
     os.utime(clone.folder / "crates/clock/src/main.rt", (time.time() + 2,) * 2)
     log = clone.folder / "target" / "clock.log"
-    says = BUILDS + f"rt: how far\nclock: rt all test failed in crates/clock: {log} has what it said\n".encode()
+    says = BUILDS + f"clock: failed (1)\nclock: rt all test failed in crates/clock: {log} has what it said\n".encode()
     tries.same("a proof that fails", clone.run(EXAMPLE), (2, b"", says))
-    tries.same("its log", log.read_text(), "rt: how far\nwhat is wrong\n")
+    tries.same("its log", log.read_text(), "what is wrong\nclock: failed (1)\n")
 
 
 def try_two_builds(tries):

@@ -1,5 +1,6 @@
 # How a crate is proved and built with the Rattle kit's rt where that is not done yet, for the scripts beside this file
-# that read it behind kit.sh. Each of them runs in the repository and has a function fail, which prints one line and stops.
+# that read it behind kit.sh. Each of them runs in the repository and has a function fail, which prints one line and
+# stops.
 
 # Has a crate's product proved and built if it is missing or older than a source. For the functions below, crate is the
 # name of the crate, and product the file that rt makes.
@@ -36,7 +37,7 @@ build() {
     log=$PWD/target/$crate.log
     touch "$mark" 2>/dev/null || fail "the folder target cannot be written"
     # As measured; crates that are proved already take no time.
-    echo "$crate: proving and building $count crates, which takes some $((count * 15)) s on two processors the first time" >&2
+    echo "$crate: proving and building $count crates, which takes some $((count * 40)) s on two processors the first time" >&2
     if ! prove; then
         # rt may have built a program whose run then failed: it counts as older than its sources.
         touch -c -t 197001020000 "$product"
@@ -72,17 +73,18 @@ prove() {
     [ "$(cat "$mark.status")" = 0 ]
 }
 
-# Of rt's many lines only those that tell how far it is are shown, each as it comes; the log has all of them.
+# Of rt's many lines only those that tell how far it is are shown, each as it comes, and which crates failed; the log has
+# all of them.
 tell() {
     ended=0
     while IFS= read -r line; do
         case $line in
-        "== summary" | "rt: chose "*) ;;
+        "== summary") ;;
         "== "*)
             ended=$((ended + 1))
-            echo "$crate: $ended of $count, ${line#== }" >&2
+            echo "$crate: $ended of $count, ${line#== }"
             ;;
-        "rt: "*) printf '%s\n' "$line" >&2 ;;
+        "rt: waiting for "* | *": failed ("*")" | *": not run, since "*) printf '%s\n' "$line" ;;
         esac
-    done
+    done >&2
 }
