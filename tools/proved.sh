@@ -73,8 +73,8 @@ prove() {
     [ "$(cat "$mark.status")" = 0 ]
 }
 
-# Of rt's many lines only those that tell how far it is are shown, each as it comes, and which crates failed; the log has
-# all of them.
+# Of rt's many lines only those that tell how far it is are shown, each as it comes, and which crates failed; the log
+# has all of them.
 tell() {
     ended=0
     while IFS= read -r line; do
