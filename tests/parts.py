@@ -44,7 +44,7 @@ def random(*counts):
 MODEL = cargo("build", "the independent model cannot be built")
 REFUSALS = python("a must-fail edit was not refused for its reason", "tests/refusals.py")
 WRONG = python("a wrong program was not refused for its reason", "tests/wrong_programs.py")
-WRONG_TOO = WRONG._replace(words=(*WRONG.words, "--rt"))
+WRONG_AGAIN, WRONG_TOO = (WRONG._replace(words=(*WRONG.words, word)) for word in ("--again", "--rt"))
 BAD_EDITS = python("a bad edit is not told as it should be", "tests/bad_edits.py")
 
 # How many of the parts ask for nothing that is built.
@@ -67,7 +67,7 @@ PARTS = (
         "wrong",
         "the wrong programs, over what is proved, and that a harmless one would be told",
         (WRONG_TOO, BAD_EDITS),
-        whole=(WRONG, BAD_EDITS),
+        whole=(WRONG_AGAIN, BAD_EDITS),
         wide=True,
     ),
     Part(
