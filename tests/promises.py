@@ -9,6 +9,7 @@ import sys
 from pathlib import Path
 
 from names import theorems
+from refusals import comment
 
 PAGE = Path("docs/PROMISES.md")
 FILE = Path("crates/promises/proofs/Promises.antt")
@@ -18,14 +19,14 @@ EDITS = re.compile(r"`(crates/[a-z0-9_]+/(?:must-fail|wrong)/\w+\.edit)`")
 
 def named(text):
     """The theorems named in a text."""
-    return {name for line in THEOREMS.findall(text) for name in re.findall(r"`([a-z][a-z0-9_]*)`", line)}
+    return {name for line in THEOREMS.findall(text) for name in re.findall(r"`([a-z]\w*)`", line)}
 
 
 def by_law(edit):
     """Whether an edit changes a definition and its code, or a statement, and a law refuses it and no function's proof."""
     text = Path(edit).read_text(encoding="utf-8")
     met = "\nfile: src/" in text or edit.startswith("crates/promises/")
-    return met and "\nfile: specs/" in text and "\n# Refused in: proofs/" in text
+    return met and "\nfile: specs/" in text and "::" not in (comment(text, "Refused in") or "")
 
 
 def wrong(promise):
