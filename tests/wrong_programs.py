@@ -49,12 +49,16 @@ def kit():
     return Path(os.environ.get("RATTLE_HOME") or Path(rt).resolve().parent.parent).resolve()
 
 
-def dependencies(crate):
-    """The crates that crates.txt names behind one."""
-    named = re.search(r"^%s[ \t]*:([^#\n]*)" % crate, Path("crates.txt").read_text(encoding="utf-8"), re.MULTILINE)
+def listing(crate):
+    """What crates.txt says of a crate: words about its kind, and the crates that it names."""
+    named = re.search(r"^%s\b([^:\n]*):([^#\n]*)" % crate, Path("crates.txt").read_text(encoding="utf-8"), re.MULTILINE)
     if not named:
         raise Missing("crates.txt does not list %s" % crate)
-    return named.group(1).split()
+    return named.group(1).split(), named.group(2).split()
+
+
+def dependencies(crate):
+    return listing(crate)[1]
 
 
 def check(crate, folder, kept):
@@ -68,6 +72,7 @@ def check(crate, folder, kept):
         words += ["-L", "dependency=%s" % own.resolve()]
     words += ["--antt-project", home / "rattle/logic/antt-project.json", "--logic-built", home / "logic_built"]
     words += ["--jobs", "1", "--links", crate + "=", "--incremental", kept.resolve()]
+    words += ["--crate-type", "staticlib"] if "staticlib" in listing(crate)[0] else []
     how = {"stdin": subprocess.DEVNULL, "stdout": subprocess.PIPE, "stderr": subprocess.STDOUT}
     done = subprocess.run(list(map(str, words)), cwd=folder, encoding="utf-8", errors="replace", **how)
     return done.returncode, done.stdout
