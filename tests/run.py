@@ -178,7 +178,6 @@ def proved():
     if not COUNT.fullmatch(last):
         raise Failed("rt ci did not end in a count of passes alone")
     judge_edits(lines)
-    called(REFUSALS)
     crates, edits, programs = (telling(lines, what) for what in (CRATE, EDIT, PROGRAM))
     # Programs are run behind all else.
     last_proof = max((line.time for line in crates + edits), default=ended)
@@ -221,6 +220,8 @@ def everything(whole):
     took = tried_all(PARTS[:BEFORE_RT], whole)
     last, rows = proved() if whole else (None, [])
     rows += [built()]
+    if whole:
+        called(REFUSALS)
     took.update(tried_all(PARTS[BEFORE_RT:], whole))
     wrong = took.pop("wrong")
     spent = time.monotonic() - began
