@@ -141,7 +141,7 @@ class Line(NamedTuple):
 
 
 def watched(*words):
-    """Shows rt's output as it comes, but for its last line: all of its lines."""
+    """Shows rt's output as it comes, but for its last line: all of its lines with their times, and the text of the last."""
     lines, held = [], b""
     with begun(["rt", *words], stdout=subprocess.PIPE, stderr=subprocess.STDOUT) as rt:
         for line in rt.stdout:
