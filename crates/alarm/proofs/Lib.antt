@@ -1,3 +1,4 @@
+pub mod LastingLaws
 pub mod RingLaws
 pub mod NumberLaws
 pub mod WellLaws

@@ -1,6 +1,6 @@
 -- When an alarm rings: where a match begins, and not while it lasts. Assumes nothing.
 use mathlib.Core.Path.{◌≡◌, refl, sym, ap, ◌∙◌}
-use mathlib.Core.Bool.{Bool, true, false, cond, ◌&&◌, not, and-true, and-false, and-not_self, beq, true≢false}
+use mathlib.Core.Bool.{Bool, true, false, cond, ◌&&◌, not, and-true, and-false, beq, true≢false}
 use Prim.Native.Nat.{ℕ, ◌<◌}
 use native.Mathlib.Decide.{ℕ_discrete}
 use lib.Dec.{eqb}
@@ -18,14 +18,7 @@ use Rattle.calendar.proofs.AdvanceLaws.{advance_weekday}
 use Rattle.alarm.specs.Matching.{weekday_in, off, matches_of}
 use Rattle.alarm.specs.Alarm.{meets_of, rings_of, rung_of}
 use Rattle.alarm.specs.declared.alarm.Alarm.{Alarm}
-
--- nothing begins where the match is as it was
-unmoved : (x y : Bool) → x ≡ y → x && not y ≡ false
-unmoved x y e = rw e (and-not_self y)
-
--- while a match lasts nothing rings, from whatever time it is entered
-pub match_lasts : (a : Alarm) (s t : Time) → meets_of a s ≡ true → rings_of a s t ≡ false
-match_lasts a s t e = rw e (and-false (meets_of a t))
+use Rattle.alarm.proofs.LastingLaws.{unmoved, match_lasts}
 
 -- so flag and pin pulse stay as they are, and where a match begins the one is set and the other whole
 pub lasts_alone : (a : Alarm) (s t : Time) (asked : Bool) → meets_of a s ≡ true → rung_of a s t asked ≡ a
