@@ -4,7 +4,7 @@ use Rattle.fields.proofs.Settles.{Settles, settled}
 use Rattle.fields.proofs.digits.value.Kinds as value_kinds
 use Rattle.fields.proofs.digits.value.Reads as value_reads
 use Rattle.fields.proofs.digits.byte.Kinds as byte_kinds
-use Rattle.fields.proofs.digits.byte.Reads as byte_Reads
+use Rattle.fields.proofs.digits.byte.Reads as byte_reads
 use Rattle.fields.proofs.digits.legal.Kinds as legal_kinds
 use Rattle.fields.proofs.digits.legal.Reads as legal_reads
 use Rattle.fields.proofs.digits.step.Kinds as step_kinds
@@ -27,7 +27,7 @@ use Rattle.fields.proofs.times.time_of_day.Reads as time_of_day_reads
 pub value_settles : Settles 0 value_kinds.ps value_kinds.r value_reads.Post
 value_settles κs a e f x y = settled (λ z. z) (λ z. z) (λ z. refl)
 
-pub byte_settles : Settles 0 byte_kinds.ps byte_kinds.r byte_Reads.Post
+pub byte_settles : Settles 0 byte_kinds.ps byte_kinds.r byte_reads.Post
 byte_settles κs a e f x y = settled (λ z. z) (λ z. z) (λ z. refl)
 
 pub legal_settles : Settles 0 legal_kinds.ps legal_kinds.r legal_reads.Post

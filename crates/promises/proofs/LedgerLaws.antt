@@ -65,16 +65,16 @@ same_byte : {x y : ℕ} → x / 16 ≡ y / 16 → x % 16 ≡ y % 16 → x ≡ y
 same_byte p q = omega arith
 
 -- two legal times in one hour mode
-module _ (t u : Time) (k l : ℕ) (legal-t : number_of t ≡ some k) (legal-u : number_of u ≡ some l) (mode : mode_of t.hours ≡ mode_of u.hours) where
+module _ (t u : Time) (k l : ℕ) (legal_t : number_of t ≡ some k) (legal_u : number_of u ≡ some l) (mode : mode_of t.hours ≡ mode_of u.hours) where
   pub same_digits : digits_of t ≡ digits_of u → SameMinute t u
   unfolding id_of
   same_digits e =
       let digit : (i : ℕ) → get_or (digits_of t) i 0 ≡ get_or (digits_of u) i 0 = λ i. ap (λ (d : List ℕ). get_or d i 0) e in
-      let below = (number_moment t k legal-t).clock.hours in
+      let below = (number_moment t k legal_t).clock.hours in
       record {
         month = same_byte (digit 0) (digit 1);
         day = same_byte (digit 2) (digit 3);
-        hour = ap hour_number_of (same_hours t.hours u.hours below (number_moment u l legal-u).clock.hours mode (same_byte (digit 4) (digit 5)));
+        hour = ap hour_number_of (same_hours t.hours u.hours below (number_moment u l legal_u).clock.hours mode (same_byte (digit 4) (digit 5)));
         below = below;
         minutes = same_byte (digit 6) (digit 7);
       }

@@ -68,11 +68,11 @@ module _ (r : ℕ → ℕ) (i : Inner) where
         let a = alarm_at r in
         let m = meets_of a (time_next r) in
         let b = not (meets_of a (time_before r)) in
-        let some-field = and_left (not (eqb (r 0x0E) 0)) (m && b) (sym (laws.enabled_rings a (time_before r) (time_next r)) ∙ e) in
+        let some_field = and_left (not (eqb (r 0x0E) 0)) (m && b) (sym (laws.enabled_rings a (time_before r) (time_next r)) ∙ e) in
         record {
           ended = j.ended;
           intae = j.intae;
-          enabled = λ p. true≢false (sym some-field ∙ ap not (eq-eqb (r 0x0E) 0 p));
+          enabled = λ p. true≢false (sym some_field ∙ ap not (eq-eqb (r 0x0E) 0 p));
           after = sym (matches_same r (time_next r)) ∙ and_left m b e;
           before = sym (matches_same r (time_before r)) ∙ not-true (meets_of a (time_before r)) (and_right m b e);
         }

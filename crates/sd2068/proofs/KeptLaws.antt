@@ -99,12 +99,12 @@ step_kept c good t k l r =
     let f = register_of c 0x12 in
     let read = r.reading.reads ++ (r.reading.last ∷ []) in
     let set = same_after step event step_event step_after c w s in
-    let well-set = steps_well c w s in
-    let well-asked = steps_well (after step c s) well-set es in
-    let same = sym (same_after step event step_event step_after (after step c s) well-set es ∙ ap (λ (x : Clock). after event x es) set) in
-    let spares = subst (λ (x : Clock). Spares event x es) set (same_spares step event step_event step_after r.spares well-set) in
-    subst (λ (x : List (List ℕ)). ReadsBack t k f p (step d (byte 0x65)).answer x) (sym (same_reads step event step_event step_after (step d (byte 0x65)).state (step_after d well-asked (byte 0x65)) read))
-    (subst (λ (o : Outcome). ReadsBack t k f p o.answer (reads_of event o.state read)) (sym (step_event d well-asked (byte 0x65)))
+    let well_set = steps_well c w s in
+    let well_asked = steps_well (after step c s) well_set es in
+    let same = sym (same_after step event step_event step_after (after step c s) well_set es ∙ ap (λ (x : Clock). after event x es) set) in
+    let spares = subst (λ (x : Clock). Spares event x es) set (same_spares step event step_event step_after r.spares well_set) in
+    subst (λ (x : List (List ℕ)). ReadsBack t k f p (step d (byte 0x65)).answer x) (sym (same_reads step event step_event step_after (step d (byte 0x65)).state (step_after d well_asked (byte 0x65)) read))
+    (subst (λ (o : Outcome). ReadsBack t k f p o.answer (reads_of event o.state read)) (sym (step_event d well_asked (byte 0x65)))
     (read_back c t k l r.setting es spares d same r.reading))
 
 -- from a well-formed state what events do, steps do
@@ -114,14 +114,14 @@ by_steps c good r =
     let s = set_by r.setting in
     let es = r.traffic in
     let set = same_after step event step_event step_after c w s in
-    let well-set = subst Well set (steps_well c w s) in
-    let asked = ap (λ (x : Clock). after step x es) set ∙ same_after step event step_event step_after (after event c s) well-set es in
+    let well_set = subst Well set (steps_well c w s) in
+    let asked = ap (λ (x : Clock). after step x es) set ∙ same_after step event step_event step_after (after event c s) well_set es in
     record {
       setting = r.setting;
       traffic = es;
       spares =
           subst (λ (x : Clock). Spares step x es) (sym set)
-          (same_spares event step (λ x v e. sym (step_event x v e)) event_after r.spares well-set);
+          (same_spares event step (λ x v e. sym (step_event x v e)) event_after r.spares well_set);
       reading = subst Reading (sym asked) r.reading;
     }
 

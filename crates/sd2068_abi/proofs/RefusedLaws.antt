@@ -81,7 +81,7 @@ module _ (s : List ℕ) where
   look_judged a = within (full_of s) (well_formed_of (clock_of s) && plain_of s) (look_told a) 1
 
   look_alone : (a : Answer) → accepted_of s ≡ false → look a ≡ 1
-  look_alone a no-state = look_judged a ∙ ap (λ (b : Bool). cond b (look_told a) 1) no-state
+  look_alone a no_state = look_judged a ∙ ap (λ (b : Bool). cond b (look_told a) 1) no_state
 
   look_by : (a : Answer) (accepts : Bool) → accepted_of s ≡ accepts → refusal_in (cond accepts (look_told a) 1) ≡ 1 → accepted_of s ≡ false
   look_by a true e one =
@@ -111,10 +111,10 @@ module _ (s : List ℕ) where
     step_not = step_by_one (accepted_of s) refl
 
     step_alone : accepted_of s ≡ false → step_of s kind byte count ≡ lent 1 s
-    step_alone no-state = sym (step_refused s kind byte count no-state)
+    step_alone no_state = sym (step_refused s kind byte count no_state)
 
     step_one : accepted_of s ≡ false → refusal_in (step_of s kind byte count).told ≡ 1
-    step_one no-state = ap (λ (l : Lent). refusal_in l.told) (step_alone no-state)
+    step_one no_state = ap (λ (l : Lent). refusal_in l.told) (step_alone no_state)
 
     -- a step is refused with 1 exactly if the bytes are no state's
     pub no_state_refused : (refusal_in (step_of s kind byte count).told ≡ 1) ↔ (accepted_of s ≡ false)
@@ -133,8 +133,8 @@ module _ (s : List ℕ) where
     pub refused_alone : refusal_in (step_of s kind byte count).told ≡ 1 → (step_of s kind byte count ≡ lent 1 s) × ((pin_of s ≡ 1) × ((a : ℕ) → register_of s a ≡ 1))
     unfolding pin_of register_of
     refused_alone one =
-        let no-state = step_not one in
-        (step_alone no-state, (look_alone Quiet no-state, λ a. look_alone (register_look a) no-state))
+        let no_state = step_not one in
+        (step_alone no_state, (look_alone Quiet no_state, λ a. look_alone (register_look a) no_state))
 
   -- and where it is not, it shows the chip's pin and the chip's register
   module _ (e : accepted_of s ≡ true) where

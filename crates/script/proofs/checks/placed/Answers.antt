@@ -21,18 +21,18 @@ slice_bounds-first_fault-end c =
 
 pub returns-then-number-ne0-2 : goal.returns-then-number-ne0-2
 returns-then-number-ne0-2 c =
-    let searched-at : Searched c.args.file.now c.args.h (found c.first_fault-first.result) = searched _ _ c.args.room c.requires c.power_on-started.result c.power_on-started.ensures (sym c.number.ensures ∙ c.if-number-ne0.false)
+    let searched_at : Searched c.args.file.now c.args.h (found c.first_fault-first.result) = searched _ _ c.args.room c.requires c.power_on-started.result c.power_on-started.ensures (sym c.number.ensures ∙ c.if-number-ne0.false)
     (found c.first_fault-first.result) c.first_fault-first.ensures in
-    event_bad searched-at _ (λ e. c.if-number-ne0-2.true (c.number-2.ensures ∙ e))
+    event_bad searched_at _ (λ e. c.if-number-ne0-2.true (c.number-2.ensures ∙ e))
 
 pub returns-then-room-count : goal.returns-then-room-count
 returns-then-room-count c =
-    let searched-at : Searched c.args.file.now c.args.h (found c.first_fault-first.result) = searched _ _ c.args.room c.requires c.power_on-started.result c.power_on-started.ensures (sym c.number.ensures ∙ c.if-number-ne0.false)
+    let searched_at : Searched c.args.file.now c.args.h (found c.first_fault-first.result) = searched _ _ c.args.room c.requires c.power_on-started.result c.power_on-started.ensures (sym c.number.ensures ∙ c.if-number-ne0.false)
     (found c.first_fault-first.result) c.first_fault-first.ensures in
-    c.whole-then-room-count.ensures ∙ room_bad searched-at _ (sym c.number-2.ensures ∙ c.if-number-ne0-2.false) c.if-room-count.true
+    c.whole-then-room-count.ensures ∙ room_bad searched_at _ (sym c.number-2.ensures ∙ c.if-number-ne0-2.false) c.if-room-count.true
 
 pub returns-else-room-count : goal.returns-else-room-count
 returns-else-room-count c =
-    let searched-at : Searched c.args.file.now c.args.h (found c.first_fault-first.result) = searched _ _ c.args.room c.requires c.power_on-started.result c.power_on-started.ensures (sym c.number.ensures ∙ c.if-number-ne0.false)
+    let searched_at : Searched c.args.file.now c.args.h (found c.first_fault-first.result) = searched _ _ c.args.room c.requires c.power_on-started.result c.power_on-started.ensures (sym c.number.ensures ∙ c.if-number-ne0.false)
     (found c.first_fault-first.result) c.first_fault-first.ensures in
-    c.whole-else-room-count.ensures ∙ room_good searched-at _ (sym c.number-2.ensures ∙ c.if-number-ne0-2.false) c.if-room-count.false
+    c.whole-else-room-count.ensures ∙ room_good searched_at _ (sym c.number-2.ensures ∙ c.if-number-ne0-2.false) c.if-room-count.false

@@ -14,27 +14,27 @@ header_of-h-requires c = (good _ _ c.requires).header
 
 pub slice_bounds-power_on-end : goal.slice_bounds-power_on-end
 slice_bounds-power_on-end c =
-    let good-at : Good c.args.file.now c.header_of-h.result (length c.args.out.now) = good_by _ _ _ c.header_of-h.ensures c.requires in
-    let e = (ends _ _ good-at.sections).start in search rules
+    let good_at : Good c.args.file.now c.header_of-h.result (length c.args.out.now) = good_by _ _ _ c.header_of-h.ensures c.requires in
+    let e = (ends _ _ good_at.sections).start in search rules
 
 pub slice_bounds-run_events-end-2 : goal.slice_bounds-run_events-end-2
 slice_bounds-run_events-end-2 c =
-    let good-at : Good c.args.file.now c.header_of-h.result (length c.args.out.now) = good_by _ _ _ c.header_of-h.ensures c.requires in
-    let e = (ends _ _ good-at.sections).events in
+    let good_at : Good c.args.file.now c.header_of-h.result (length c.args.out.now) = good_by _ _ _ c.header_of-h.ensures c.requires in
+    let e = (ends _ _ good_at.sections).events in
     search rules
 
 pub run_events-requires : goal.run_events-requires
 run_events-requires c =
-    let good-at : Good c.args.file.now c.header_of-h.result (length c.args.out.now) = good_by _ _ _ c.header_of-h.ensures c.requires in
+    let good_at : Good c.args.file.now c.header_of-h.result (length c.args.out.now) = good_by _ _ _ c.header_of-h.ensures c.requires in
     let args = c.args in
-    let began = start_taken args.file.now c.header_of-h.result (length args.out.now) good-at c.power_on-started.result c.power_on-started.ensures in
-    good_run args.file.now c.header_of-h.result (length args.out.now) good-at c.power_on-started.result.clock c.bytes_of-state.result began c.bytes_of-state.ensures
+    let began = start_taken args.file.now c.header_of-h.result (length args.out.now) good_at c.power_on-started.result c.power_on-started.ensures in
+    good_run args.file.now c.header_of-h.result (length args.out.now) good_at c.power_on-started.result.clock c.bytes_of-state.result began c.bytes_of-state.ensures
 
 pub returns : goal.returns
 returns c =
-    let good-at : Good c.args.file.now c.header_of-h.result (length c.args.out.now) = good_by _ _ _ c.header_of-h.ensures c.requires in
+    let good_at : Good c.args.file.now c.header_of-h.result (length c.args.out.now) = good_by _ _ _ c.header_of-h.ensures c.requires in
     let args = c.args in
-    let began = start_taken args.file.now c.header_of-h.result (length args.out.now) good-at c.power_on-started.result c.power_on-started.ensures in
-    ran_good args.file.now c.header_of-h.result (length args.out.now) good-at c.power_on-started.result.clock c.bytes_of-state.result began c.bytes_of-state.ensures
+    let began = start_taken args.file.now c.header_of-h.result (length args.out.now) good_at c.power_on-started.result c.power_on-started.ensures in
+    ran_good args.file.now c.header_of-h.result (length args.out.now) good_at c.power_on-started.result.clock c.bytes_of-state.result began c.bytes_of-state.ensures
     args.out.now (clock_of c.run_events.new.state) c.clock_of.result _ c.run_events.ensures c.clock_of.ensures
     ∙ ap (λ (h : Header). good_of args.file.now h args.out.now) c.header_of-h.ensures

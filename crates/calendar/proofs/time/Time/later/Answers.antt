@@ -9,8 +9,8 @@ use Rattle.calendar.proofs.MomentLaws.{number_small, time_absent, time_is}
 use Rattle.calendar.proofs.time.Time.later.Goals as goal
 
 -- whole days apart, as the code counts them without a sum that could wrap
-days-passed : (a n : ℕ) → (a + n % 86400) / 86400 + n / 86400 ≡ (a + n) / 86400
-days-passed a n = omega arith
+days_passed : (a n : ℕ) → (a + n % 86400) / 86400 + n / 86400 ≡ (a + n) / 86400
+days_passed a n = omega arith
 
 pub returns-in_default : goal.returns-in_default
 unfolding later_of
@@ -42,4 +42,4 @@ returns c =
     let e = sym c.time_at.ensures ∙ ap time_found c.in-At.is in
     let found = time_is ((k + n % 3155760000) % 3155760000) c.mode.result w t e in
     let meant = ap₂ (λ x m. time_in x m w) (add-mod-mod k n 3155760000) c.mode.ensures in
-    rw told (ap some (c.days_on.ensures ∙ ap₂ days_on_of (sym found ∙ meant) (days-passed (k % 86400) n)))
+    rw told (ap some (c.days_on.ensures ∙ ap₂ days_on_of (sym found ∙ meant) (days_passed (k % 86400) n)))
