@@ -165,23 +165,32 @@ def groups(edits):
     return [group for group in found if len(group) > 1]
 
 
+def begun(edits, apart, pool):
+    """Begins the checks of a crate's edits: of groups that are tried in one copy, and of each of the others alone."""
+    batches = [] if apart else groups([e for e in edits if e.body])
+    shared = [pool.submit(together, group, "together-%d" % n) for n, group in enumerate(batches, 1)]
+    single = [e for e in edits if all(e not in group for group in batches)]
+    return shared, {edit: pool.submit(alone, edit) for edit in single}
+
+
 def judged(edits, jobs, apart):
     """Why each edit that fails does, and in how many checks all were tried."""
-    # The crates with the most below them first, so that no job is left alone with a long check at the end.
-    crates = sorted({e.crate for e in edits}, key=lambda crate: -len(dependencies(crate)))
-    shared, single = [], []
-    for crate in crates:
-        own = [e for e in edits if e.crate == crate]
-        batches = [] if apart else groups([e for e in own if e.body])
-        shared += [(group, "together-%d" % n) for n, group in enumerate(batches, 1)]
-        single += [e for e in own if all(e not in group for group in batches)]
-    for crate in reversed(crates):
-        print(base(crate), flush=True)
+    crates = sorted({e.crate for e in edits}, key=lambda crate: len(dependencies(crate)))
+    shared, single = [], {}
     with ThreadPoolExecutor(jobs) as pool:
-        begun = [pool.submit(together, *batch) for batch in shared]
-        faults = dict(zip(single, pool.map(alone, single)))
-        again = [edit for batch in begun for edit in batch.result()]
-        faults.update(zip(again, pool.map(alone, again)))
+        try:
+            # A crate's edits are tried while rt proves the next.
+            for crate in crates:
+                print(base(crate), flush=True)
+                batches, others = begun([e for e in edits if e.crate == crate], apart, pool)
+                shared += batches
+                single.update(others)
+            again = [edit for batch in shared for edit in batch.result()]
+            single.update((edit, pool.submit(alone, edit)) for edit in again)
+            faults = {edit: attempt.result() for edit, attempt in single.items()}
+        except BaseException:
+            pool.shutdown(cancel_futures=True)
+            raise
     return {edit: why for edit, why in faults.items() if why}, len(shared) + len(faults)
 
 
