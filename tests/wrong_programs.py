@@ -191,6 +191,8 @@ def judged(edits, jobs, apart):
         except BaseException:
             pool.shutdown(cancel_futures=True)
             raise
+    for crate in crates:
+        shutil.rmtree(PLACE / crate / "base")
     return {edit: why for edit, why in faults.items() if why}, len(shared) + len(faults)
 
 
