@@ -10,7 +10,7 @@ import sys
 
 BESIDE = {
     "harmless": "NOT REFUSED",
-    "elsewhere": "it was refused in events::refusal::fields, returns-in-5, not in",
+    "elsewhere": "it was refused in events::kind::fault, returns-then-good, not in",
     "untold": "it gives no input that tells",
     "right": None,
 }

@@ -1,7 +1,5 @@
 -- An alarm that is not asked only loses of its pin pulse, so any number of such pulses can be taken at once. Assumes nothing.
-use mathlib.Core.Path.{◌≡◌}
-use mathlib.Core.Bool.{Bool, false}
-use Prim.Native.Nat.{ℕ, suc}
+use Rattle.std.proofs.Common.{◌≡◌, Bool, false, ℕ, suc}
 use Rattle.calendar.specs.declared.time.Time.{Time}
 use Rattle.registers.proofs.CounterLaws.{less_none, less_more}
 use Rattle.alarm.specs.Alarm.{rung_of, lessened_of}

@@ -1,6 +1,6 @@
 -- Nothing rings while a match lasts. Assumes nothing.
-use mathlib.Core.Path.{◌≡◌}
-use mathlib.Core.Bool.{Bool, true, false, ◌&&◌, not, and-false, and-not_self}
+use Rattle.std.proofs.Common.{◌≡◌, Bool, true, false, ◌&&◌, not}
+use mathlib.Core.Bool.{and-false, and-not_self}
 use Rattle.calendar.specs.declared.time.Time.{Time}
 use Rattle.alarm.specs.Alarm.{meets_of, rings_of}
 use Rattle.alarm.specs.declared.alarm.Alarm.{Alarm}

@@ -1,10 +1,7 @@
 -- When an alarm rings: where a match begins, and not while it lasts. Assumes nothing.
-use mathlib.Core.Path.{◌≡◌, refl, sym, ap, ◌∙◌}
-use mathlib.Core.Bool.{Bool, true, false, cond, ◌&&◌, not, and-true, and-false, beq, true≢false}
-use Prim.Native.Nat.{ℕ, ◌<◌}
-use native.Mathlib.Decide.{ℕ_discrete}
-use lib.Dec.{eqb}
-use borrow.Author.Tests.{eqb-true, ne_eqb}
+use Rattle.std.proofs.Common.{◌≡◌, refl, ◌∙◌, Bool, true, false, cond, ◌&&◌, not, ℕ, ◌<◌, eqb, arith}
+use mathlib.Core.Bool.{and-true, beq}
+use Rattle.std.proofs.lemmas.Bool.Decides.{nat_tests}
 use Rattle.fields.specs.Digits.{step_of}
 use Rattle.fields.specs.declared.times.TimeOfDay.{TimeOfDay}
 use Rattle.fields.specs.Times.{next_time_of, midnight_of}
@@ -23,11 +20,11 @@ use Rattle.alarm.proofs.LastingLaws.{unmoved, match_lasts}
 -- so flag and pin pulse stay as they are, and where a match begins the one is set and the other whole
 pub lasts_alone : (a : Alarm) (s t : Time) (asked : Bool) → meets_of a s ≡ true → rung_of a s t asked ≡ a
 unfolding rung_of
-lasts_alone a s t asked e = rw (match_lasts a s t e, and-false asked) refl
+lasts_alone a s t asked e = grind (arith, nat_tests)
 
 pub begins_whole : (a : Alarm) (s t : Time) → meets_of a t ≡ true → meets_of a s ≡ false → rung_of a s t true ≡ record { at = a.at; enable = a.enable; flag = true; pulse = 8192 }
 unfolding rung_of
-begins_whole a s t now before = rw (now, before) refl
+begins_whole a s t now before = grind (arith, nat_tests)
 
 -- an empty 0Eh is a match that never begins
 pub empty_meets : (a : Alarm) (t : Time) → a.enable ≡ 0 → meets_of a t ≡ true
@@ -39,11 +36,7 @@ empty_silent a s t e = match_lasts a s t (empty_meets a s e)
 
 -- so 0Eh need not be asked for a field
 pub enabled_rings : (a : Alarm) (s t : Time) → rings_of a s t ≡ (not (eqb a.enable 0) && rings_of a s t)
-enabled_rings a s t =
-    elim (ℕ_discrete a.enable 0) [
-      | yes e ↦ rw (empty_silent a s t e) (sym (and-false (not (eqb a.enable 0))))
-      | no n ↦ rw (ne_eqb a.enable 0 n) refl
-    ]
+enabled_rings a s t = grind (arith, nat_tests, empty_silent)
 
 -- the seconds never stay where they are
 moves : (x : ℕ) → x < 256 → eqb (step_of 0x00 0x59 x) x ≡ false
@@ -56,21 +49,13 @@ module _ (a : Alarm) (on : off 0x01 a.enable ≡ false) where
   unfolding matches_of
   unmet s e = simp (on, e)
 
-  by_second : (t u : Time) → eqb u.seconds t.seconds ≡ false → (same : Bool) → eqb t.seconds a.at.seconds ≡ same → rings_of a t u ≡ meets_of a u
-  by_second t u moved false e = rw (unmet t e) (and-true (meets_of a u))
-  by_second t u moved true e =
-      let s = eqb-true t.seconds a.at.seconds e in
-      rw (unmet u (ap (λ (n : ℕ). eqb u.seconds n) (sym s) ∙ moved)) refl
-
   pub seconds_ring : (t : Time) → t.seconds < 256 → rings_of a t (advance_of t) ≡ meets_of a (advance_of t)
   unfolding advance_of next_time_of
-  seconds_ring t b = by_second t (advance_of t) (moves t.seconds b) (eqb t.seconds a.at.seconds) refl
+  seconds_ring t b = grind (arith, nat_tests, moves t.seconds b, unmet)
 
 -- the hours stay where seconds and minutes have not both come to 00h
 hours_stay : (c : TimeOfDay) (s m : Bool) → eqb (next_time_of c).seconds 0x00 ≡ s → eqb (next_time_of c).minutes 0x00 ≡ m → s && m ≡ false → (next_time_of c).hours ≡ c.hours
-hours_stay c false m e f b = ap (λ (d : TimeOfDay). d.hours) (next_kept c e)
-hours_stay c true false e f b = hour_kept c f
-hours_stay c true true e f b = absurd (true≢false b)
+hours_stay c s m e f b = grind (arith, nat_tests, next_kept, hour_kept)
 
 -- one that does not rings only where the seconds come to 00h
 module _ (a : Alarm) (s : off 0x01 a.enable ≡ true) where

@@ -1,5 +1,5 @@
 -- Every public contract of this crate settles its result. Assumes nothing.
-use mathlib.Core.Path.{refl}
+use Rattle.std.proofs.Common.{refl}
 use Rattle.fields.proofs.Settles.{Settles, settled}
 use Rattle.alarm.proofs.alarm.Alarm.rung.Kinds as rung_kinds
 use Rattle.alarm.proofs.alarm.Alarm.rung.Reads as rung_reads

@@ -1,10 +1,6 @@
 -- A pulse, a ring and a stored byte keep the alarm within its bounds. Assumes nothing.
-use mathlib.Core.Path.{◌≡◌, refl}
-use mathlib.Core.Bool.{Bool, true, false, cond, ◌&&◌}
-use Prim.Native.Nat.{ℕ, ◌+◌, ◌-◌, ◌≤◌}
-use native.Mathlib.Omega.{arith}
-use lib.Dec.{eqb, ltb, leb}
-use borrow.Author.Tests.{leb-true, le-leb, eqb-true, ltb-false}
+use Rattle.std.proofs.Common.{◌≡◌, refl, Bool, true, false, cond, ◌&&◌, ℕ, ◌+◌, ◌-◌, ◌≤◌, arith, rules, eqb, ltb, le-leb, eqb-true, ltb-false}
+use Rattle.std.proofs.lemmas.Bool.Decides.{nat_tests}
 use Rattle.fields.proofs.FieldLaws.{and_left, and_right}
 use Rattle.fields.proofs.Picked.{picked}
 use Rattle.calendar.specs.declared.time.Time.{Time}
@@ -29,23 +25,7 @@ pub record Well (a : Alarm) : Type 0 where
 module _ (a : Alarm) where
   pub parts : well_of a ≡ true → Well a
   unfolding well_of
-  parts h =
-      let fields =
-      clear_of 0x07 a.at.seconds
-      && clear_of 0x08 a.at.minutes
-      && clear_of 0x09 a.at.hours
-      && clear_of 0x0A a.at.weekday
-      && clear_of 0x0B a.at.day
-      && clear_of 0x0C a.at.month
-      && clear_of 0x0D a.at.year
-      in
-      let e = clear_of 0x0E a.enable in
-      let p = leb a.pulse 8192 in
-      record {
-        at = all_seven _ _ _ _ _ _ _ (and_left fields e (and_left (fields && e) p h));
-        enable = and_right fields e (and_left (fields && e) p h);
-        pulse = leb-true a.pulse 8192 (and_right (fields && e) p h);
-      }
+  parts h = record { at = search (rules, all_seven, and_left, and_right); enable = grind (arith, nat_tests); pulse = grind (arith, nat_tests) }
 
   pub whole : Well a → well_of a ≡ true
   unfolding well_of

@@ -1,12 +1,11 @@
 -- A read. (rules 6.7, 6.8 and 6.11)
-use Rattle.std.specs.Prelude.{Bool, cond, ◌||◌, ℕ, eqb}
+use Rattle.std.specs.Prelude.{Bool, cond, ◌||◌, ℕ, eqb, Some, None}
 use Rattle.bus.specs.declared.phase.Mode.{Mode}
 use Rattle.bus.specs.declared.phase.Mode.TheVariants.{Address, Pointer, Writing, Reading, Deaf}
 use Rattle.bus.specs.declared.phase.Transfer.{Transfer}
 use Rattle.bus.specs.declared.phase.Phase.{Phase}
 use Rattle.bus.specs.declared.phase.Phase.TheVariants.{Closed, Open}
 use Rattle.bus.specs.declared.phase.Bus.{Bus}
-use Rattle.bus.specs.declared.reads.Sent.TheVariants.{Nothing, Register}
 use Rattle.bus.specs.declared.reads.Read.{Read}
 use Rattle.bus.specs.Phase.{next_of}
 
@@ -24,18 +23,18 @@ moved_of p t ack =
 
 -- nothing is sent and nothing moves
 abbrev pub unread_of : Mode → ℕ → Transfer → Read
-unread_of m p t = record { bus = record { pointer = p; phase = Open m t }; sent = Nothing }
+unread_of m p t = record { bus = record { pointer = p; phase = Open m t }; sent = None }
 
 -- by the mode: only a transfer that reads sends the byte at its pointer
 abbrev pub read_in : Mode → ℕ → Transfer → Bool → Read
 read_in Address p t ack = unread_of Address p t
 read_in Pointer p t ack = unread_of Pointer p t
 read_in Writing p t ack = unread_of Writing p t
-read_in Reading p t ack = record { bus = moved_of p t ack; sent = Register p }
+read_in Reading p t ack = record { bus = moved_of p t ack; sent = Some p }
 read_in Deaf p t ack = unread_of Deaf p t
 
 abbrev pub read_by : Phase → ℕ → Bool → Read
-read_by Closed p ack = record { bus = record { pointer = p; phase = Closed }; sent = Nothing }
+read_by Closed p ack = record { bus = record { pointer = p; phase = Closed }; sent = None }
 read_by (Open m t) p ack = read_in m p t ack
 
 unfoldable pub read_of : Bus → Bool → Read

@@ -1,10 +1,10 @@
 // A master's byte. (rules 6.3 to 6.6)
 ghost use Rattle.std.specs.Prelude.{◌≡◌};
-ghost use Rattle.bus.specs.Bytes.{deaf_of, addressed_of, pointed_of, heard_in, heard_of};
+ghost use Rattle.bus.specs.Bytes.{heard_of};
 
-use crate::phase::{Bus, Mode, Phase, Transfer, next};
+use crate::phase::{Bus, Mode, Phase, next};
 
-// What the byte asks of the rest of the chip: to latch the time, or to write it to a register.
+// What the byte asks of the rest of the chip; each match tells the three cases apart, and an Option would only nest two of them.
 #[derive(Clone, Copy)]
 pub enum Effect {
     None,
@@ -21,104 +21,38 @@ pub struct Heard {
 }
 
 impl Bus {
-    // A byte in any phase; with no transfer open it is not acknowledged. (rule 6.6)
+    // A byte in any phase: one that is not awaited is not acknowledged. (rules 6.3 to 6.6)
+    #[tactic(auto, unfolding(crate::specs::Bytes::heard_of))]
     pub fn heard(self, b: u8) -> Heard
         ensures { result ≡ heard_of self b }
     {
-        let phase = self.phase;
-        match phase {
-            Phase::Closed => Heard {
-                bus: Bus {
-                    pointer: self.pointer,
-                    phase: Phase::Closed,
-                },
+        let Phase::Open(mode, transfer) = self.phase else {
+            return Heard {
+                bus: self,
                 ack: false,
                 effect: Effect::None,
+            };
+        };
+        let (mode, pointer, ack, effect) = match (mode, b) {
+            (Mode::Address, 0x64) => (Mode::Pointer, self.pointer, true, Effect::None),
+            (Mode::Address, 0x65) => (Mode::Reading, self.pointer, true, Effect::Latch),
+            (Mode::Pointer, 0x00..=0x1F) => (Mode::Writing, b, true, Effect::None),
+            (Mode::Writing, _) => (
+                Mode::Writing,
+                next(self.pointer),
+                true,
+                Effect::Write(self.pointer),
+            ),
+            (Mode::Reading, _) => (Mode::Reading, self.pointer, false, Effect::None),
+            _ => (Mode::Deaf, self.pointer, false, Effect::None),
+        };
+        Heard {
+            bus: Bus {
+                pointer,
+                phase: Phase::Open(mode, transfer),
             },
-            Phase::Open(mode, transfer) => heard_in(mode, self.pointer, transfer, b),
+            ack,
+            effect,
         }
-    }
-}
-
-// A byte in an open transfer, by its mode. (rules 6.3 to 6.6)
-fn heard_in(mode: Mode, pointer: u8, transfer: Transfer, b: u8) -> Heard
-    ensures { result ≡ heard_in mode pointer transfer b }
-{
-    match mode {
-        Mode::Address => addressed(pointer, transfer, b),
-        Mode::Pointer => pointed(pointer, transfer, b),
-        Mode::Writing => Heard {
-            bus: Bus {
-                pointer: next(pointer),
-                phase: Phase::Open(Mode::Writing, transfer),
-            },
-            ack: true,
-            effect: Effect::Write(pointer),
-        },
-        Mode::Reading => Heard {
-            bus: Bus {
-                pointer,
-                phase: Phase::Open(Mode::Reading, transfer),
-            },
-            ack: false,
-            effect: Effect::None,
-        },
-        Mode::Deaf => deaf(pointer, transfer),
-    }
-}
-
-// Not acknowledged, and deaf from here on.
-fn deaf(pointer: u8, transfer: Transfer) -> Heard
-    ensures { result ≡ deaf_of pointer transfer }
-{
-    Heard {
-        bus: Bus {
-            pointer,
-            phase: Phase::Open(Mode::Deaf, transfer),
-        },
-        ack: false,
-        effect: Effect::None,
-    }
-}
-
-// An address byte. (rule 6.3)
-fn addressed(pointer: u8, transfer: Transfer, b: u8) -> Heard
-    ensures { result ≡ addressed_of pointer transfer b }
-{
-    match b {
-        0x64 => Heard {
-            bus: Bus {
-                pointer,
-                phase: Phase::Open(Mode::Pointer, transfer),
-            },
-            ack: true,
-            effect: Effect::None,
-        },
-        0x65 => Heard {
-            bus: Bus {
-                pointer,
-                phase: Phase::Open(Mode::Reading, transfer),
-            },
-            ack: true,
-            effect: Effect::Latch,
-        },
-        _ => deaf(pointer, transfer),
-    }
-}
-
-// A pointer byte. (rule 6.4)
-fn pointed(pointer: u8, transfer: Transfer, b: u8) -> Heard
-    ensures { result ≡ pointed_of pointer transfer b }
-{
-    match b {
-        0x00..=0x1F => Heard {
-            bus: Bus {
-                pointer: b,
-                phase: Phase::Open(Mode::Writing, transfer),
-            },
-            ack: true,
-            effect: Effect::None,
-        },
-        _ => deaf(pointer, transfer),
     }
 }

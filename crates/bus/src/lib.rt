@@ -7,4 +7,4 @@ mod reads;
 
 pub use bytes::{Effect, Heard};
 pub use phase::{Bus, Mode, Phase, Transfer, next};
-pub use reads::{Read, Sent};
+pub use reads::Read;

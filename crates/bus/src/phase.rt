@@ -1,11 +1,11 @@
 // The phase of the bus, and what START and time do to it. (rules 6.1, 6.2, 6.11, 6.12 and 8.2)
 ghost use Rattle.std.specs.Prelude.{◌≡◌};
-ghost use Rattle.bus.specs.Phase.{next_of, started_of, aged_of, older_of, marked_of, well_of};
+ghost use Rattle.bus.specs.Phase.{next_of, started_of, older_of, marked_of, well_of};
 
-// What an open transfer awaits or does. (rule 6.1)
+// What an open transfer awaits or does, with its number in a state's bytes. (rules 6.1 and 10.2)
 #[derive(Clone, Copy)]
 pub enum Mode {
-    Address,
+    Address = 1,
     Pointer,
     Writing,
     Reading,
@@ -13,19 +13,21 @@ pub enum Mode {
 }
 
 // What an open transfer carries: its age in pulses, and the mark of a read at 0Fh. (rule 6.1)
-#[derive(Clone, Copy)]
+#[derive(Clone, Copy, Default)]
 pub struct Transfer {
     pub age: u32,
     pub marked: bool,
 }
 
-#[derive(Clone, Copy)]
+// The rule and the definitions of the bus name both, where an Option would have None and Some. (rule 6.1)
+#[derive(Clone, Copy, Default)]
 pub enum Phase {
+    #[default]
     Closed,
     Open(Mode, Transfer),
 }
 
-#[derive(Clone, Copy)]
+#[derive(Clone, Copy, Default)]
 pub struct Bus {
     pub pointer: u8,
     pub phase: Phase,
@@ -36,22 +38,13 @@ impl Bus {
     pub fn started(self) -> Bus
         ensures { result ≡ started_of self }
     {
-        let phase = self.phase;
-        match phase {
-            Phase::Closed => {
-                let begun = Transfer {
-                    age: 0,
-                    marked: false,
-                };
-                Bus {
-                    pointer: self.pointer,
-                    phase: Phase::Open(Mode::Address, begun),
-                }
-            }
-            Phase::Open(_, transfer) => Bus {
-                pointer: self.pointer,
-                phase: Phase::Open(Mode::Address, transfer),
-            },
+        let transfer = match self.phase {
+            Phase::Closed => Transfer::default(),
+            Phase::Open(_, transfer) => transfer,
+        };
+        Bus {
+            phase: Phase::Open(Mode::Address, transfer),
+            ..self
         }
     }
 
@@ -59,13 +52,19 @@ impl Bus {
     pub fn older(self, n: u32) -> Bus
         ensures { result ≡ older_of self n }
     {
-        let phase = self.phase;
-        match phase {
-            Phase::Closed => Bus {
-                pointer: self.pointer,
-                phase: Phase::Closed,
-            },
-            Phase::Open(mode, transfer) => aged(self.pointer, mode, transfer, n),
+        match self.phase {
+            Phase::Closed => self,
+            Phase::Open(mode, transfer) => {
+                let age = transfer.age.saturating_add(n);
+                if age < 16384 {
+                    Bus {
+                        phase: Phase::Open(mode, Transfer { age, ..transfer }),
+                        ..self
+                    }
+                } else {
+                    Bus::default()
+                }
+            }
         }
     }
 
@@ -73,8 +72,7 @@ impl Bus {
     pub fn marked(self) -> bool
         ensures { result ≡ marked_of self }
     {
-        let phase = self.phase;
-        match phase {
+        match self.phase {
             Phase::Closed => false,
             Phase::Open(_, transfer) => transfer.marked,
         }
@@ -84,31 +82,9 @@ impl Bus {
     pub fn well_formed(self) -> bool
         ensures { result ≡ well_of self }
     {
-        let phase = self.phase;
-        match phase {
+        match self.phase {
             Phase::Closed => self.pointer <= 31,
-            Phase::Open(_, transfer) => (self.pointer <= 31) & (transfer.age <= 16383),
-        }
-    }
-}
-
-fn aged(pointer: u8, mode: Mode, transfer: Transfer, n: u32) -> Bus
-    ensures { result ≡ aged_of pointer mode transfer n }
-{
-    let age = transfer.age as u64 + n as u64;
-    if age < 16384 {
-        let older = Transfer {
-            age: age as u32,
-            marked: transfer.marked,
-        };
-        Bus {
-            pointer,
-            phase: Phase::Open(mode, older),
-        }
-    } else {
-        Bus {
-            pointer: 0x00,
-            phase: Phase::Closed,
+            Phase::Open(_, transfer) => self.pointer <= 31 && transfer.age <= 16383,
         }
     }
 }

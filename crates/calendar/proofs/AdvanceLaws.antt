@@ -1,7 +1,7 @@
 -- One second on for a moment: it stays a moment, and its number is the next of the century. Assumes nothing.
 use mathlib.Core.Path.{◌≡◌, refl, ◌∙◌, ap}
 use mathlib.Core.Bool.{Bool, true, false, cond}
-use mathlib.Core.Option.{some}
+use Rattle.std.specs.Prelude.{Some}
 use Prim.Native.Nat.{ℕ, ◌+◌, ◌*◌, ◌%◌, ◌<◌}
 use native.Mathlib.Omega.{arith}
 use lib.Dec.{eqb}
@@ -72,10 +72,10 @@ module _ (t : Time) (l : Moment t) where
       by_turn (next_time_of (clock_of t)) (next_date_of (date_of t)) (turns_over (clock_of t) l.clock) (next_day (date_of t) l.date)
 
 -- the number after one second is the next one of the century
-pub advance_number : (t : Time) (k : ℕ) → number_of t ≡ some k → number_of (advance_of t) ≡ some ((k + 1) % 3155760000)
+pub advance_number : (t : Time) (k : ℕ) → number_of t ≡ Some k → number_of (advance_of t) ≡ Some ((k + 1) % 3155760000)
 advance_number t k e =
     let a = advances t (number_moment t k e) in
-    moment_number (advance_of t) a.moment ∙ ap some (a.since ∙ ap (λ (n : ℕ). (n + 1) % 3155760000) (number_since t k e))
+    moment_number (advance_of t) a.moment ∙ ap Some (a.since ∙ ap (λ (n : ℕ). (n + 1) % 3155760000) (number_since t k e))
 
 -- for every time, legal or not: the hour mode stays
 pub advance_mode : (t : Time) → mode_of (advance_of t).hours ≡ mode_of t.hours

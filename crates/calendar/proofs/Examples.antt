@@ -1,6 +1,6 @@
 -- Times at which the rules turn, each with the time one second on: computed from the definitions. Assumes nothing.
 use mathlib.Core.Path.{◌≡◌, refl}
-use mathlib.Core.Option.{some}
+use Rattle.std.specs.Prelude.{Some}
 use mathlib.Core.List.{List, [], ◌∷◌, map}
 use Prim.Native.Nat.{ℕ}
 use Rattle.fields.specs.Digits.{step_of}
@@ -51,6 +51,6 @@ unfolding before after advance_of next_time_of midnight_of next_date_of step_of 
 examples = refl
 
 -- three hours and a second later it is midnight, and a leap day
-evening_later : later_of evening 10801 ≡ some (at 0x12 0x00 0x00 0 0x29 0x02 0x00)
+evening_later : later_of evening 10801 ≡ Some (at 0x12 0x00 0x00 0 0x29 0x02 0x00)
 unfolding later_of number_of since_of time_in weekday_on_of legal_date_of legal_time_of day_of first_day_of days_of last_day_of leap_of month_from second_of time_of_day_of hour_number_of hour_byte_of codes place_of
 evening_later = refl

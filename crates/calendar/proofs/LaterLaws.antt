@@ -2,7 +2,7 @@
 use mathlib.Core.Path.{◌≡◌, refl, sym, ◌∙◌, ap}
 use mathlib.Core.Logic.{◌↔◌}
 use mathlib.Core.Bool.{cond}
-use mathlib.Core.Option.{Option, none, some}
+use Rattle.std.specs.Prelude.{Option, Some, None}
 use Prim.Native.Nat.{ℕ, zero, suc, ◌+◌, ◌/◌, ◌%◌}
 use native.Mathlib.Decide.{ℕ_discrete}
 use native.Mathlib.Omega.{arith}
@@ -75,15 +75,15 @@ module _ (t : Time) (l : Moment t) where
   placed n u r = sym (time_back u r.moment) ∙ (λ i. time_in (r.since i) (r.mode i) (r.weekday i))
 
   -- n single seconds come to the time that is n seconds on
-  pub later_times : (n : ℕ) → later_of t n ≡ some (times advance_of n t)
+  pub later_times : (n : ℕ) → later_of t n ≡ Some (times advance_of n t)
   unfolding later_of
-  later_times n = rw (moment_number t l) (ap some (sym (placed n (times advance_of n t) (reached n))))
+  later_times n = rw (moment_number t l) (ap Some (sym (placed n (times advance_of n t) (reached n))))
 
 -- none exactly where the time has no second number
-later_by : (t : Time) (n : ℕ) (k : Option ℕ) → (later_from t n k ≡ none) ↔ (k ≡ none)
-later_by t n none = (λ e. refl, λ e. refl)
-later_by t n (some k) = (λ e. absurd (some_none _ e), λ e. absurd (some_none k e))
+later_by : (t : Time) (n : ℕ) (k : Option ℕ) → (later_from t n k ≡ None) ↔ (k ≡ None)
+later_by t n None = (λ e. refl, λ e. refl)
+later_by t n (Some k) = (λ e. absurd (some_none _ e), λ e. absurd (some_none k e))
 
-pub later_none : (t : Time) (n : ℕ) → (later_of t n ≡ none) ↔ (number_of t ≡ none)
+pub later_none : (t : Time) (n : ℕ) → (later_of t n ≡ None) ↔ (number_of t ≡ None)
 unfolding later_of
 later_none t n = later_by t n (number_of t)

@@ -1,7 +1,7 @@
 -- By the list of first days the conversions of a lent list are those of the rules. Assumes nothing.
 use mathlib.Core.Path.{◌≡◌, refl, ◌∙◌, ap}
 use mathlib.Core.Bool.{Bool, true, false, cond, ◌&&◌}
-use mathlib.Core.Option.{none, some}
+use Rattle.std.specs.Prelude.{Some, None}
 use Prim.Native.Nat.{ℕ, ◌/◌, ◌≤◌, ◌<◌}
 use native.Mathlib.Omega.{arith}
 use lib.Dec.{ltb}
@@ -18,7 +18,7 @@ use Rattle.calendar.specs.Lent.{second_from, number_in_of, time_on, time_in_of}
 use Rattle.calendar.specs.declared.time.Time.{Time}
 
 -- the second number goes by the day number
-number_by : (t : Time) (b : Bool) → legal_date_of (date_of t) ≡ b → second_from (cond b (some (day_of (date_of t))) none) (legal_time_of (clock_of t)) (second_of (clock_of t)) ≡ cond (b && legal_time_of (clock_of t)) (some (since_of t)) none
+number_by : (t : Time) (b : Bool) → legal_date_of (date_of t) ≡ b → second_from (cond b (Some (day_of (date_of t))) None) (legal_time_of (clock_of t)) (second_of (clock_of t)) ≡ cond (b && legal_time_of (clock_of t)) (Some (since_of t)) None
 unfolding since_of
 number_by t true e = simp (lt-ltb (day_of (date_of t)) 36525 (day_small (date_of t) (legal_date (date_of t) e)))
 number_by t false e = refl
@@ -35,7 +35,7 @@ day_past : (n : ℕ) → 36525 ≤ n / 86400 → 3155760000 ≤ n
 day_past n h = omega arith
 
 module _ (n : ℕ) (m : HourMode) (w : ℕ) where
-  time_by_lem : (b : Bool) → ltb (n / 86400) 36525 ≡ b → time_on (cond b (some (date_in (month_of (n / 86400)) (n / 86400))) none) n m w ≡ cond (ltb n 3155760000) (some (time_in n m w)) none
+  time_by_lem : (b : Bool) → ltb (n / 86400) 36525 ≡ b → time_on (cond b (Some (date_in (month_of (n / 86400)) (n / 86400))) None) n m w ≡ cond (ltb n 3155760000) (Some (time_in n m w)) None
   unfolding time_in
   time_by_lem true e = simp (lt-ltb n 3155760000 (day_below n (ltb-true (n / 86400) 36525 e)))
   time_by_lem false e = simp (le-ltb n 3155760000 (day_past n (ltb-false (n / 86400) 36525 e)))

@@ -5,5 +5,6 @@ pub mod AdvanceLaws
 pub mod LaterLaws
 pub mod HouseLaws
 pub mod FixedLaws
+pub mod BytesLaws
 mod Examples
 mod Settled

@@ -2,7 +2,7 @@
 use mathlib.Core.Path.{◌≡◌, refl, sym, ◌∙◌, ap, ap₂}
 use mathlib.Core.Logic.{◌↔◌}
 use mathlib.Core.Bool.{true, false, ◌&&◌}
-use mathlib.Core.Option.{none, some}
+use Rattle.std.specs.Prelude.{Some, None}
 use Prim.Native.Nat.{ℕ, ◌+◌, ◌*◌, ◌/◌, ◌%◌, ◌≤◌, ◌<◌}
 use native.Mathlib.Omega.{arith}
 use lib.Dec.{ltb}
@@ -38,20 +38,20 @@ module _ (t : Time) where
   since_small l = omega (arith, day_small (date_of t) l.date, second_small (clock_of t) l.clock)
 
   -- a moment has a second number
-  pub moment_number : Moment t → number_of t ≡ some (since_of t)
+  pub moment_number : Moment t → number_of t ≡ Some (since_of t)
   unfolding number_of
   moment_number l = simp (date_legal (date_of t) l.date, time_legal (clock_of t) l.clock)
 
   -- and nothing else has
-  pub number_moment : (k : ℕ) → number_of t ≡ some k → Moment t
+  pub number_moment : (k : ℕ) → number_of t ≡ Some k → Moment t
   unfolding number_of
   number_moment k e = moment (given (legal_date_of (date_of t) && legal_time_of (clock_of t)) (since_of t) k e).holds
 
-  pub number_since : (k : ℕ) → number_of t ≡ some k → since_of t ≡ k
+  pub number_since : (k : ℕ) → number_of t ≡ Some k → since_of t ≡ k
   unfolding number_of
   number_since k e = (given (legal_date_of (date_of t) && legal_time_of (clock_of t)) (since_of t) k e).same
 
-  pub number_small : (k : ℕ) → number_of t ≡ some k → k < 3155760000
+  pub number_small : (k : ℕ) → number_of t ≡ Some k → k < 3155760000
   number_small k e = omega (arith, number_since k e, since_small (number_moment k e))
 
 -- a day and a second come back out of their sum
@@ -102,50 +102,50 @@ module _ (n : ℕ) (m : HourMode) (w : ℕ) where
 
 -- exactly the numbers below a century have a time
 module _ (n : ℕ) (m : HourMode) (w : ℕ) where
-  pub time_there : n < 3155760000 → time_at_of n m w ≡ some (time_in n m w)
+  pub time_there : n < 3155760000 → time_at_of n m w ≡ Some (time_in n m w)
   unfolding time_at_of
   time_there h = simp (lt-ltb n 3155760000 h)
 
-  pub time_absent : time_at_of n m w ≡ none → 3155760000 ≤ n
+  pub time_absent : time_at_of n m w ≡ None → 3155760000 ≤ n
   unfolding time_at_of
   time_absent e = ltb-false n 3155760000 (missing (ltb n 3155760000) (time_in n m w) e)
 
-  pub time_small : (t : Time) → time_at_of n m w ≡ some t → n < 3155760000
+  pub time_small : (t : Time) → time_at_of n m w ≡ Some t → n < 3155760000
   unfolding time_at_of
   time_small t e = ltb-true n 3155760000 (given (ltb n 3155760000) (time_in n m w) t e).holds
 
-  pub time_is : (t : Time) → time_at_of n m w ≡ some t → time_in n m w ≡ t
+  pub time_is : (t : Time) → time_at_of n m w ≡ Some t → time_in n m w ≡ t
   unfolding time_at_of
   time_is t e = (given (ltb n 3155760000) (time_in n m w) t e).same
 
 -- both round trips, over the answers
-pub number_time : (t : Time) (k : ℕ) → number_of t ≡ some k → time_at_of k (mode_of t.hours) t.weekday ≡ some t
+pub number_time : (t : Time) (k : ℕ) → number_of t ≡ Some k → time_at_of k (mode_of t.hours) t.weekday ≡ Some t
 number_time t k e =
     time_there k (mode_of t.hours) t.weekday (number_small t k e)
-    ∙ ap some (ap (λ (n : ℕ). time_in n (mode_of t.hours) t.weekday) (sym (number_since t k e)) ∙ time_back t (number_moment t k e))
+    ∙ ap Some (ap (λ (n : ℕ). time_in n (mode_of t.hours) t.weekday) (sym (number_since t k e)) ∙ time_back t (number_moment t k e))
 
-pub time_number : (n : ℕ) (m : HourMode) (w : ℕ) (t : Time) → time_at_of n m w ≡ some t → number_of t ≡ some n
+pub time_number : (n : ℕ) (m : HourMode) (w : ℕ) (t : Time) → time_at_of n m w ≡ Some t → number_of t ≡ Some n
 time_number n m w t e =
     let h = time_small n m w t e in
-    ap number_of (sym (time_is n m w t e)) ∙ moment_number (time_in n m w) (time_moment n m w h) ∙ ap some (since_back n m w h)
+    ap number_of (sym (time_is n m w t e)) ∙ moment_number (time_in n m w) (time_moment n m w h) ∙ ap Some (since_back n m w h)
 
 -- in the hour mode asked for, and with the weekday that was handed in
-pub time_in_mode : (n : ℕ) (m : HourMode) (w : ℕ) (t : Time) → time_at_of n m w ≡ some t → mode_of t.hours ≡ m
+pub time_in_mode : (n : ℕ) (m : HourMode) (w : ℕ) (t : Time) → time_at_of n m w ≡ Some t → mode_of t.hours ≡ m
 time_in_mode n m w t e = ap (λ (u : Time). mode_of u.hours) (sym (time_is n m w t e)) ∙ time_mode n m w
 
-pub time_weekday : (n : ℕ) (m : HourMode) (w : ℕ) (t : Time) → time_at_of n m w ≡ some t → t.weekday ≡ w
+pub time_weekday : (n : ℕ) (m : HourMode) (w : ℕ) (t : Time) → time_at_of n m w ≡ Some t → t.weekday ≡ w
 unfolding time_in
 time_weekday n m w t e = ap (λ (u : Time). u.weekday) (sym (time_is n m w t e))
 
 -- none exactly for an illegal date or time of day
-pub number_none : (t : Time) → (number_of t ≡ none) ↔ (legal_date_of (date_of t) && legal_time_of (clock_of t) ≡ false)
+pub number_none : (t : Time) → (number_of t ≡ None) ↔ (legal_date_of (date_of t) && legal_time_of (clock_of t) ≡ false)
 unfolding number_of
 number_none t =
     let b = legal_date_of (date_of t) && legal_time_of (clock_of t) in
     (missing b (since_of t), none_when b (since_of t))
 
 -- none exactly for a number of a century or more
-pub time_none : (n : ℕ) (m : HourMode) (w : ℕ) → (time_at_of n m w ≡ none) ↔ (3155760000 ≤ n)
+pub time_none : (n : ℕ) (m : HourMode) (w : ℕ) → (time_at_of n m w ≡ None) ↔ (3155760000 ≤ n)
 unfolding time_at_of
 time_none n m w = (time_absent n m w, λ h. none_when (ltb n 3155760000) (time_in n m w) (le-ltb n 3155760000 h))
 

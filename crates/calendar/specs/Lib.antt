@@ -1,3 +1,4 @@
+pub mod Bytes
 pub mod Weekdays
 pub mod Advance
 pub mod Numbers

@@ -1,6 +1,5 @@
 -- Second numbers, and a time any number of seconds on. (rules 3.14 to 3.16)
-use Rattle.std.specs.Prelude.{cond, ◌&&◌, ℕ, ◌+◌, ◌*◌, ◌/◌, ◌%◌, ltb}
-use Rattle.std.proofs.Math.Option.{Option, none, some}
+use Rattle.std.specs.Prelude.{cond, ◌&&◌, ℕ, ◌+◌, ◌*◌, ◌/◌, ◌%◌, ltb, Option, Some, None}
 use Rattle.fields.specs.declared.hours.HourMode.{HourMode}
 use Rattle.fields.specs.declared.times.TimeOfDay.{TimeOfDay}
 use Rattle.fields.specs.Hours.{mode_of}
@@ -10,10 +9,6 @@ use Rattle.dates.specs.Dates.{legal_date_of, day_of, month_of, date_in}
 use Rattle.calendar.specs.Weekdays.{weekday_on_of}
 use Rattle.calendar.specs.Advance.{clock_of, date_of}
 use Rattle.calendar.specs.declared.time.Time.{Time}
-use Rattle.calendar.specs.declared.numbers.SecondNumber.{SecondNumber}
-use Rattle.calendar.specs.declared.numbers.SecondNumber.TheVariants as second_number_case
-use Rattle.calendar.specs.declared.numbers.TimeFound.{TimeFound}
-use Rattle.calendar.specs.declared.numbers.TimeFound.TheVariants as time_found_case
 
 -- the seconds since 2000-01-01 00:00:00
 unfoldable pub since_of : Time → ℕ
@@ -21,7 +16,7 @@ since_of t = day_of (date_of t) * 86400 + second_of (clock_of t)
 
 -- the second number, or none (rule 3.14)
 unfoldable pub number_of : Time → Option ℕ
-number_of t = cond (legal_date_of (date_of t) && legal_time_of (clock_of t)) (some (since_of t)) none
+number_of t = cond (legal_date_of (date_of t) && legal_time_of (clock_of t)) (Some (since_of t)) None
 
 -- a time put together from its parts
 abbrev pub joined : TimeOfDay → ℕ → Date → Time
@@ -42,7 +37,7 @@ time_in n m w = joined (time_of_day_of m (n % 86400)) w (date_in (month_of (n / 
 
 -- the time of a second number, or none (rule 3.15)
 unfoldable pub time_at_of : ℕ → HourMode → ℕ → Option Time
-time_at_of n m w = cond (ltb n 3155760000) (some (time_in n m w)) none
+time_at_of n m w = cond (ltb n 3155760000) (Some (time_in n m w)) None
 
 -- the same time with its weekday d days on
 abbrev pub days_on_of : Time → ℕ → Time
@@ -50,18 +45,9 @@ days_on_of t d = joined (clock_of t) (weekday_on_of t.weekday d) (date_of t)
 
 -- n seconds after a time with second number k, or none (rule 3.16)
 abbrev pub later_from : Time → ℕ → Option ℕ → Option Time
-later_from t n none = none
-later_from t n (some k) =
-    some (days_on_of (time_in ((k + n) % 3155760000) (mode_of t.hours) t.weekday) ((k % 86400 + n) / 86400))
+later_from t n None = None
+later_from t n (Some k) =
+    Some (days_on_of (time_in ((k + n) % 3155760000) (mode_of t.hours) t.weekday) ((k % 86400 + n) / 86400))
 
 unfoldable pub later_of : Time → ℕ → Option Time
 later_of t n = later_from t n (number_of t)
-
--- what the answers say
-abbrev pub second_number : SecondNumber → Option ℕ
-second_number (second_number_case.Second n) = some n
-second_number second_number_case.None = none
-
-abbrev pub time_found : TimeFound → Option Time
-time_found (time_found_case.At t) = some t
-time_found time_found_case.None = none

@@ -7,5 +7,5 @@ mod time;
 mod weekdays;
 
 pub use lent::time_in;
-pub use numbers::{SecondNumber, TimeFound, time_at};
+pub use numbers::time_at;
 pub use time::Time;

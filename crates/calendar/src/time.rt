@@ -1,5 +1,6 @@
 // A time: seven bytes in the order of their registers, any values. (rules 2.1, 3.3 and 3.17)
 ghost use Rattle.std.specs.Prelude.{◌≡◌};
+ghost use Rattle.calendar.specs.Bytes.{bytes_of, time_of};
 ghost use Rattle.calendar.specs.Weekdays.{legal_weekday_of};
 ghost use Rattle.calendar.specs.Advance.{clock_of, date_of, advance_of};
 
@@ -7,7 +8,7 @@ use crate::weekdays::next_weekday;
 use dates::Date;
 use fields::{TimeOfDay, pick};
 
-#[derive(Clone, Copy)]
+#[derive(Clone, Copy, Default)]
 pub struct Time {
     pub seconds: u8,
     pub minutes: u8,
@@ -49,6 +50,7 @@ impl Time {
     }
 
     // One second on: at midnight the weekday and the date step. (rule 3.17)
+    #[tactic(auto, unfolding(crate::specs::Advance::advance_of))]
     pub fn advanced(self) -> Time
         ensures { result ≡ advance_of self }
     {
@@ -63,6 +65,35 @@ impl Time {
             day: pick(turns, date.day, self.day),
             month: pick(turns, date.month, self.month),
             year: pick(turns, date.year, self.year),
+        }
+    }
+}
+
+// The seven bytes in the order of their registers. (rule 2.1)
+impl From<Time> for [u8; 7] {
+    ghost from_gives = { λ t b. b ≡ bytes_of t };
+
+    fn from(t: Time) -> [u8; 7] {
+        [
+            t.seconds, t.minutes, t.hours, t.weekday, t.day, t.month, t.year,
+        ]
+    }
+}
+
+// Any seven bytes are a time. (rule 2.1)
+impl From<[u8; 7]> for Time {
+    ghost from_gives = { λ b t. t ≡ time_of b };
+
+    fn from(b: [u8; 7]) -> Time {
+        let [seconds, minutes, hours, weekday, day, month, year] = b;
+        Time {
+            seconds,
+            minutes,
+            hours,
+            weekday,
+            day,
+            month,
+            year,
         }
     }
 }

@@ -1,8 +1,8 @@
 // A second of each day of the century, in both hour modes.
 use crate::digest::{mix_found, mix_none, mix_number, mix_time};
 use crate::draws::draw;
-use crate::lines::{print_digest, print_range};
-use calendar::{TimeFound, time_at};
+use crate::lines::{print_digest, print_lines, print_range};
+use calendar::time_at;
 use fields::HourMode;
 use std::io;
 
@@ -14,11 +14,7 @@ struct Run {
 }
 
 pub(crate) fn print_dates(rt: &impl Print) -> io::Result<()> {
-    let mut drawn = 1;
-    for line in 0..25 {
-        drawn = print_line(rt, line, drawn)?;
-    }
-    Ok(())
+    print_lines(25, 1, |line, drawn| print_line(rt, line, drawn))
 }
 
 // A line has four years, one of them leap; the next line draws on from the number returned.
@@ -31,11 +27,7 @@ fn print_line(rt: &impl Print, line: u8, drawn: u32) -> io::Result<u32> {
 }
 
 fn run_of_days(first: u32, end: u32, drawn: u32) -> Run {
-    let mut run = Run { digest: 0, drawn };
-    for day in first..end {
-        run = run.with_day(day);
-    }
-    run
+    (first..end).fold(Run { digest: 0, drawn }, |run, day| run.with_day(day))
 }
 
 impl Run {
@@ -55,7 +47,7 @@ impl Run {
 
 // The time of second number k, its number again, one second on and n seconds on. (rules 3.14 to 3.17)
 fn mix_second(d: u32, k: u64, m: HourMode, weekday: u8, n: u32) -> u32 {
-    let TimeFound::At(t) = time_at(k, m, weekday) else {
+    let Some(t) = time_at(k, m, weekday) else {
         return mix_none(d);
     };
     let to_time = mix_time(d, t);

@@ -10,6 +10,7 @@ mod patterns;
 
 use std::io;
 
+// The runtime goes from call to call beside the line, since it is lent for a call alone.
 fn main(rt: HostRuntime) -> io::Result<()> {
     days::print_dates(&rt)?;
     month_ends::print_month_ends(&rt)?;

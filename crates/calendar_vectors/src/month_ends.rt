@@ -1,8 +1,8 @@
 // The last second of each month of the century, in both hour modes.
 use crate::digest::{mix_none, mix_time};
 use crate::lines::{print_digest, print_range};
-use calendar::{TimeFound, time_at};
-use dates::{Date, DayNumber};
+use calendar::time_at;
+use dates::Date;
 use fields::{HourMode, byte};
 use std::io;
 
@@ -21,11 +21,7 @@ fn print_line(rt: &impl Print, line: u8) -> io::Result<()> {
 }
 
 fn digest_of_months(first: u32, end: u32) -> u32 {
-    let mut digest = 0;
-    for month in first..end {
-        digest = mix_month(digest, month);
-    }
-    digest
+    (first..end).fold(0, mix_month)
 }
 
 fn mix_month(d: u32, month: u32) -> u32 {
@@ -37,7 +33,7 @@ fn mix_month(d: u32, month: u32) -> u32 {
 
 // The time of second number k, and one second on. (rules 3.15 and 3.17)
 fn mix_end(d: u32, k: u64, m: HourMode, weekday: u8) -> u32 {
-    let TimeFound::At(t) = time_at(k, m, weekday) else {
+    let Some(t) = time_at(k, m, weekday) else {
         return mix_none(d);
     };
     mix_time(mix_time(d, t), t.advanced())
@@ -56,8 +52,5 @@ fn first_day(month: u64) -> u64 {
         month: byte((month % 12 + 1) as u8),
         year: byte((month / 12 % 100) as u8),
     };
-    let DayNumber::Day(d) = first.number() else {
-        return 0;
-    };
-    d
+    first.number().unwrap_or(0)
 }

@@ -1,24 +1,20 @@
 // Patterns: seven bytes at random, most of them near a carry, legal or not.
 use crate::digest::{mix_bool, mix_found, mix_number, mix_time};
 use crate::draws::draw;
-use crate::lines::{print_digest, print_figure, print_range};
-use calendar::{SecondNumber, Time};
+use crate::lines::{print_digest, print_figure, print_lines, print_range};
+use calendar::Time;
 use std::io;
 
-// Eight bytes for each field, about which its rules turn: last values, leap years, bytes just not legal.
-const SECONDS: [u8; 8] = [0x59, 0x59, 0x59, 0x00, 0x58, 0x5a, 0x60, 0xd9];
-
-const MINUTES: [u8; 8] = [0x59, 0x59, 0x59, 0x00, 0x09, 0x5f, 0x60, 0xd9];
-
-const HOURS: [u8; 8] = [0xa3, 0x31, 0xa3, 0x31, 0x11, 0x29, 0xa4, 0x13];
-
-const WEEKDAY: [u8; 8] = [0x00, 0x01, 0x02, 0x03, 0x04, 0x05, 0x06, 0x07];
-
-const DAY: [u8; 8] = [0x28, 0x29, 0x30, 0x31, 0x28, 0x29, 0x00, 0x32];
-
-const MONTH: [u8; 8] = [0x02, 0x02, 0x04, 0x12, 0x01, 0x09, 0x13, 0x00];
-
-const YEAR: [u8; 8] = [0x00, 0x99, 0x01, 0x04, 0x10, 0x96, 0x9a, 0x14];
+// Eight bytes for each field of a time, about which its rules turn: last values, leap years, bytes just not legal.
+const EDGES: [[u8; 8]; 7] = [
+    [0x59, 0x59, 0x59, 0x00, 0x58, 0x5a, 0x60, 0xd9],
+    [0x59, 0x59, 0x59, 0x00, 0x09, 0x5f, 0x60, 0xd9],
+    [0xa3, 0x31, 0xa3, 0x31, 0x11, 0x29, 0xa4, 0x13],
+    [0x00, 0x01, 0x02, 0x03, 0x04, 0x05, 0x06, 0x07],
+    [0x28, 0x29, 0x30, 0x31, 0x28, 0x29, 0x00, 0x32],
+    [0x02, 0x02, 0x04, 0x12, 0x01, 0x09, 0x13, 0x00],
+    [0x00, 0x99, 0x01, 0x04, 0x10, 0x96, 0x9a, 0x14],
+];
 
 // A pattern, and the number drawn last: the seconds to go on.
 #[derive(Clone, Copy)]
@@ -37,11 +33,7 @@ struct Tally {
 }
 
 pub(crate) fn print_patterns(rt: &impl Print) -> io::Result<()> {
-    let mut drawn = 2;
-    for line in 0..10 {
-        drawn = print_line(rt, line, drawn)?;
-    }
-    Ok(())
+    print_lines(10, 2, |line, drawn| print_line(rt, line, drawn))
 }
 
 // The next line draws on from the number returned.
@@ -56,16 +48,13 @@ fn print_line(rt: &impl Print, line: u8, drawn: u32) -> io::Result<u32> {
 }
 
 fn tally_of_patterns(many: u32, drawn: u32) -> Tally {
-    let mut tally = Tally {
+    let start = Tally {
         digest: 0,
         numbered: 0,
         turned: 0,
         drawn,
     };
-    for _ in 0..many {
-        tally = tally.with_pattern();
-    }
-    tally
+    (0..many).fold(start, |tally, _| tally.with_pattern())
 }
 
 impl Tally {
@@ -75,7 +64,7 @@ impl Tally {
         let next = t.advanced();
         Tally {
             digest: mix_pattern(self.digest, t, p.n),
-            numbered: count(self.numbered, is_numbered(t)),
+            numbered: count(self.numbered, t.number().is_some()),
             turned: count(self.turned, next.year != t.year),
             drawn: p.n,
         }
@@ -92,39 +81,21 @@ fn mix_pattern(d: u32, t: Time, n: u32) -> u32 {
     mix_found(to_next, t.later(n as u64))
 }
 
-fn is_numbered(t: Time) -> bool {
-    let SecondNumber::Second(_) = t.number() else {
-        return false;
-    };
-    true
-}
-
 // One more where b holds; no count here comes near the wrap.
 fn count(n: u32, b: bool) -> u32 {
-    if b { n.wrapping_add(1) } else { n }
+    n.wrapping_add(u32::from(b))
 }
 
 // A draw for each field, and one for the seconds to go on.
 fn pattern_after(drawn: u32) -> Pattern {
-    let s = draw(drawn);
-    let m = draw(s);
-    let h = draw(m);
-    let w = draw(h);
-    let day = draw(w);
-    let month = draw(day);
-    let year = draw(month);
-    let t = Time {
-        seconds: byte_of(SECONDS, s),
-        minutes: byte_of(MINUTES, m),
-        hours: byte_of(HOURS, h),
-        weekday: byte_of(WEEKDAY, w),
-        day: byte_of(DAY, day),
-        month: byte_of(MONTH, month),
-        year: byte_of(YEAR, year),
-    };
+    let mut last = drawn;
+    let bytes = EDGES.map(|edges| {
+        last = draw(last);
+        byte_of(edges, last)
+    });
     Pattern {
-        time: t,
-        n: draw(year),
+        time: Time::from(bytes),
+        n: draw(last),
     }
 }
 

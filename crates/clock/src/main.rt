@@ -1,11 +1,10 @@
 // Runs the script file on standard input: prints its lines, or only what it is refused for. (section 9)
 #![tactic(auto)]
 
-ghost use Rattle.std.specs.Prelude.{◌≤◌, IfOk, length};
-
+use events::Refusal;
+use input::read_full;
 use script::{LONGEST_REFUSED, put_refused, run};
 use std::io;
-use std::io::Read;
 
 fn main(rt: HostRuntime) -> io::Result<()> {
     // One byte more than a file may have, so that a longer one is refused.
@@ -16,35 +15,16 @@ fn main(rt: HostRuntime) -> io::Result<()> {
     run_file(&rt, &file[..got], &mut out)
 }
 
-// Reads until the buffer is full or the input ends, and returns how many bytes it has put into it.
-fn read_full(input: &mut impl Read, buf: &mut [u8]) -> io::Result<usize>
-    ensures { IfOk result (λ n. n ≤ length buf.new) }
-{
-    let mut done = 0;
-    while done < buf.len() {
-        let n = input.read(&mut buf[done..])?;
-        if n == 0 {
-            break;
-        }
-        done += n;
-    }
-    Ok(done)
-}
-
+// File and output are two buffers of fixed size, lent as `run` takes them.
 fn run_file(rt: &impl Print, file: &[u8], out: &mut [u8]) -> io::Result<()> {
-    let ran = run(file, out);
-    let refusal = ran.refusal;
-    let n = refusal.number();
-    if n == 0 {
-        let end = 5 * ran.count;
-        rt.write_all(&out[..end])
-    } else {
-        print_refusal(rt, n)
+    match run(file, out) {
+        Ok(ran) => rt.write_all(&out[..5 * ran.count]),
+        Err(refused) => print_refusal(rt, refused.refusal),
     }
 }
 
-fn print_refusal(rt: &impl Print, n: u8) -> io::Result<()> {
+fn print_refusal(rt: &impl Print, refusal: Refusal) -> io::Result<()> {
     let mut line = [0u8; LONGEST_REFUSED];
-    let size = put_refused(&mut line, n);
+    let size = put_refused(&mut line, refusal.number()).unwrap();
     rt.write_all(&line[..size])
 }

@@ -1,8 +1,6 @@
 -- Each bit of 0Fh and of 10h is had back from the byte, by tests of all their values that antt computes. Assumes nothing.
-use mathlib.Core.Path.{◌≡◌}
-use mathlib.Core.Bool.{Bool, cond, beq}
-use Prim.Native.Nat.{ℕ, ◌+◌}
-use lib.Dec.{T}
+use Rattle.std.proofs.Common.{◌≡◌, Bool, cond, ℕ, ◌+◌, T}
+use mathlib.Core.Bool.{beq}
 use Rattle.fields.proofs.Bits.{Test, all_of, each_bit, same}
 use Rattle.control.specs.Control.{bit_of}
 

@@ -1,8 +1,5 @@
 -- The lock is open exactly if 10h and 0Fh show its three bits. Assumes nothing.
-use mathlib.Core.Path.{◌≡◌}
-use mathlib.Core.Bool.{Bool, ◌&&◌}
-use Prim.Native.Nat.{ℕ, ◌/◌, ◌%◌, ◌^◌}
-use lib.Dec.{eqb}
+use Rattle.std.proofs.Common.{◌≡◌, Bool, ◌&&◌, ℕ, ◌/◌, ◌%◌, ◌^◌, eqb}
 use Rattle.control.specs.Control.{bit_of}
 use Rattle.control.specs.Lock.{open_of, ctr1_of, ctr2_of}
 use Rattle.control.specs.declared.control.Control.{Control}

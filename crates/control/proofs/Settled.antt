@@ -1,12 +1,11 @@
 -- Every public contract of this crate settles its result. Assumes nothing.
-use mathlib.Core.Path.{◌≡◌, refl}
-use mathlib.Core.Bool.{cond}
-use Prim.Native.Nat.{ℕ}
-use lib.Dec.{eqb}
+use Rattle.std.proofs.Common.{◌≡◌, refl, cond, ℕ, eqb}
 use Rattle.fields.proofs.Settles.{Settles, settled}
 use Rattle.control.specs.Pin.{letter_of}
 use Rattle.control.specs.declared.pin.Level.{Level}
 use Rattle.control.specs.declared.pin.Level.TheVariants.{High, Low, Crystal}
+use Rattle.control.proofs.control.Control.from_bytes.Kinds as from_bytes_kinds
+use Rattle.control.proofs.control.Control.from_bytes.Reads as from_bytes_reads
 use Rattle.control.proofs.control.Control.stored.Kinds as stored_kinds
 use Rattle.control.proofs.control.Control.stored.Reads as stored_reads
 use Rattle.control.proofs.control.Control.well_formed.Kinds as control_well_formed_kinds
@@ -36,6 +35,9 @@ pub level_again : (x : Level) → level_back (letter_of x) ≡ x
 level_again High = refl
 level_again Low = refl
 level_again Crystal = refl
+
+pub from_bytes_settles : Settles 0 from_bytes_kinds.ps from_bytes_kinds.r from_bytes_reads.Post
+from_bytes_settles κs a e f x y = settled (λ z. z) (λ z. z) (λ z. refl)
 
 pub stored_settles : Settles 0 stored_kinds.ps stored_kinds.r stored_reads.Post
 stored_settles κs a e f x y = settled (λ z. z) (λ z. z) (λ z. refl)

@@ -7,9 +7,9 @@ use Rattle.control.specs.declared.control.Control.{Control}
 abbrev pub bit_of : ℕ → ℕ → Bool
 bit_of w b = eqb (b / w % 2) 1
 
--- the bits of 10h below the lock's
-abbrev pub by_ctr2 : Control → ℕ → Control
-by_ctr2 c b =
+-- what 10h, but for the lock's bit, and 11h hold
+abbrev pub held_in : ℕ → ℕ → Control
+held_in b k =
     record {
       im = bit_of 0x40 b;
       ints1 = bit_of 0x20 b;
@@ -18,8 +18,12 @@ by_ctr2 c b =
       intde = bit_of 0x04 b;
       intae = bit_of 0x02 b;
       intfe = bit_of 0x01 b;
-      ctr3 = c.ctr3;
+      ctr3 = k;
     }
+
+-- the bits of 10h below the lock's
+abbrev pub by_ctr2 : Control → ℕ → Control
+by_ctr2 c b = held_in b c.ctr3
 
 -- 11h is held as its byte
 abbrev pub by_ctr3 : Control → ℕ → Control

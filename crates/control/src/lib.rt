@@ -1,7 +1,6 @@
 // The lock, the control registers and the levels of the pin.
 #![tactic(auto)]
 
-mod bits;
 mod control;
 mod lock;
 mod pin;

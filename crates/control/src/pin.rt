@@ -1,12 +1,13 @@
 // The levels of the pin. (rules 5.12 to 5.14 and 8.1)
-ghost use Rattle.std.specs.Prelude.{◌≡◌};
-ghost use Rattle.control.specs.Pin.{letter_of, driven_of, bell_of, low_half_of, output_of, frequency_of};
+ghost use Rattle.std.specs.Prelude.{◌≡◌, ◌<◌};
+ghost use Rattle.control.specs.Pin.{letter_of, driven_of, bell_of, period_of, low_half_of, output_of, frequency_of};
 
-#[derive(Clone, Copy)]
+// Each has its letter for its number: H, L and X. (rule 8.1)
+#[derive(Clone, Copy, PartialEq, Eq)]
 pub enum Level {
-    High,
-    Low,
-    Crystal,
+    High = 72,
+    Low = 76,
+    Crystal = 88,
 }
 
 impl Level {
@@ -14,15 +15,11 @@ impl Level {
     pub fn letter(self) -> u8
         ensures { result ≡ letter_of self }
     {
-        match self {
-            Level::High => 72,
-            Level::Low => 76,
-            Level::Crystal => 88,
-        }
+        self as u8
     }
 }
 
-// A pin that is low or high.
+// A pin that is low or high, which `Level::from` of a bool would not say.
 fn driven(low: bool) -> Level
     ensures { letter_of result ≡ driven_of low }
 {
@@ -30,6 +27,7 @@ fn driven(low: bool) -> Level
 }
 
 // Alarm or countdown: under IM 0 the flag decides, under IM 1 its pin pulse while enabled. (rule 5.12)
+#[tactic(auto, unfolding(crate::specs::Pin::bell_of))]
 pub fn bell(im: bool, flag: bool, enabled: bool, pulse: u32) -> Level
     ensures { letter_of result ≡ bell_of im flag enabled pulse }
 {
@@ -40,27 +38,40 @@ pub fn bell(im: bool, flag: bool, enabled: bool, pulse: u32) -> Level
     }
 }
 
-// Whether the free divider is in the first half of the period that FS 2 to 14 names. (rule 5.14)
-fn low_half(fs: u8, divider: u32) -> bool
-    ensures { result ≡ low_half_of fs divider }
+// The periods of FS 2 to 14, in pulses. (rule 5.14)
+#[tactic(auto, unfolding(crate::specs::Pin::period_of))]
+fn period(fs: u8) -> u32
+    ensures value { result ≡ period_of fs }
+    ensures some { 0 < result }
 {
     match fs {
-        2 => divider % 8 < 4,
-        3 => divider % 32 < 16,
-        4 => divider % 512 < 256,
-        5 => divider % 1024 < 512,
-        6 => divider % 2048 < 1024,
-        7 => divider % 4096 < 2048,
-        8 => divider % 8192 < 4096,
-        9 => divider % 16384 < 8192,
-        10 => divider % 32768 < 16384,
-        11 => divider % 65536 < 32768,
-        12 => divider % 131072 < 65536,
-        13 => divider % 262144 < 131072,
-        _ => divider % 524288 < 262144,
+        2 => 8,
+        3 => 32,
+        4 => 512,
+        5 => 1024,
+        6 => 2048,
+        7 => 4096,
+        8 => 8192,
+        9 => 16384,
+        10 => 32768,
+        11 => 65536,
+        12 => 131072,
+        13 => 262144,
+        _ => 524288,
     }
 }
 
+// Whether the free divider is in the first half of its period. (rule 5.14)
+#[tactic(auto, unfolding(crate::specs::Pin::low_half_of))]
+fn low_half(fs: u8, divider: u32) -> bool
+    ensures { result ≡ low_half_of fs divider }
+{
+    let period = period(fs);
+    divider % period < period / 2
+}
+
+// FS stands in a register and the divider beside all registers, so they come as two numbers.
+#[tactic(auto, unfolding(crate::specs::Pin::output_of))]
 fn output(fs: u8, divider: u32, counter: u32) -> Level
     ensures { letter_of result ≡ output_of fs divider counter }
 {

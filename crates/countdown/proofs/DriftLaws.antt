@@ -1,8 +1,5 @@
 -- Pulses before a tick only count, so any number of them can be taken at once. Assumes nothing.
-use mathlib.Core.Path.{◌≡◌, refl, sym}
-use mathlib.Core.Bool.{Bool, true, false, true≢false}
-use Prim.Native.Nat.{ℕ, suc, ◌+◌, ◌-◌, ◌≤◌}
-use native.Mathlib.Omega.{arith}
+use Rattle.std.proofs.Common.{◌≡◌, refl, sym, Bool, true, false, true≢false, ℕ, suc, ◌+◌, ◌-◌, ◌≤◌, arith}
 use borrow.Author.Tests.{lt-leb}
 use Rattle.registers.specs.Counters.{reached_of, more_of}
 use Rattle.registers.proofs.CounterLaws.{within_room, more_room, more_none, less_none, less_more}

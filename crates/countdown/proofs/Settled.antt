@@ -1,5 +1,5 @@
 -- Every public contract of this crate settles its result. Assumes nothing.
-use mathlib.Core.Path.{refl}
+use Rattle.std.proofs.Common.{refl}
 use Rattle.fields.proofs.Settles.{Settles, settled}
 use Rattle.countdown.proofs.Countdown.counted.Kinds as counted_kinds
 use Rattle.countdown.proofs.Countdown.counted.Reads as counted_reads

@@ -5,9 +5,9 @@ ghost use Rattle.std.specs.Prelude.{◌≡◌};
 ghost use Rattle.countdown.specs.Countdown.{limit_of, down_of, counted_of, lessened_of, within_of, drifted_of, stored_of, well_of};
 
 use fields::pick;
-use registers::{choose, less, more, reached, turned, within};
+use registers::{bit_at, less, more, reached, turned, within};
 
-#[derive(Clone, Copy)]
+#[derive(Clone, Copy, Default)]
 pub struct Countdown {
     pub count: u8,
     pub reload: u8,
@@ -18,6 +18,7 @@ pub struct Countdown {
 
 impl Countdown {
     // One pulse, by INTDE and TDS. (rules 5.7 to 5.9)
+    #[tactic(auto, unfolding(crate::specs::Countdown::counted_of))]
     pub fn counted(self, on: bool, tds: u8) -> Countdown
         ensures { result ≡ counted_of self on tds }
     {
@@ -26,10 +27,10 @@ impl Countdown {
         let fires = ticks & (self.count == 1);
         Countdown {
             count: pick(ticks, down(self.count, self.reload), self.count),
-            reload: self.reload,
-            prescaler: choose(on, turned(self.prescaler, limit), self.prescaler),
+            prescaler: pick(on, turned(self.prescaler, limit), self.prescaler),
             flag: fires | self.flag,
-            pulse: choose(fires, 8192, self.pulse),
+            pulse: pick(fires, 8192, self.pulse),
+            ..self
         }
     }
 
@@ -45,23 +46,24 @@ impl Countdown {
     pub fn within(self, on: bool, tds: u8, n: u32) -> u32
         ensures { result ≡ within_of self on tds n }
     {
-        choose(on, within(self.prescaler, limit(tds), n), n)
+        pick(on, within(self.prescaler, limit(tds), n), n)
     }
 
     // n pulses that make no tick, by INTDE. (rules 5.6 and 5.7)
     pub fn drifted(mut self, on: bool, n: u32) -> Countdown
         ensures { result ≡ drifted_of self on n }
     {
-        self.prescaler = choose(on, more(self.prescaler, n), self.prescaler);
+        self.prescaler = pick(on, more(self.prescaler, n), self.prescaler);
         self.lessened(n)
     }
 
     // A byte stored at register a. (rules 2.7 and 2.8)
+    #[tactic(auto, unfolding(crate::specs::Countdown::stored_of))]
     pub fn stored(mut self, a: u8, b: u8) -> Countdown
         ensures { result ≡ stored_of self a b }
     {
         match a {
-            0x0F => self.flag = self.flag & (b / 0x10 % 2 == 1),
+            0x0F => self.flag &= bit_at(b, 4),
             0x11 => self.prescaler = 0,
             0x13 => {
                 self.count = b;
@@ -74,6 +76,7 @@ impl Countdown {
     }
 
     // Whether the state may be handed in: the bounds of count, prescaler and pin pulse. (rule 8.2)
+    #[tactic(auto, unfolding(crate::specs::Countdown::well_of))]
     pub fn well_formed(self) -> bool
         ensures { result ≡ well_of self }
     {
@@ -97,5 +100,5 @@ fn limit(tds: u8) -> u32
 fn down(count: u8, reload: u8) -> u8
     ensures { result ≡ down_of count reload }
 {
-    if count == 0 { reload } else { count - 1 }
+    count.checked_sub(1).unwrap_or(reload)
 }

@@ -1,7 +1,7 @@
 -- The laws of dates: the day number, the two conversions, and one day on. Assumes nothing.
 use mathlib.Core.Path.{◌≡◌, sym, ◌∙◌, ap, ap₂}
 use mathlib.Core.Bool.{true, false, ◌&&◌}
-use mathlib.Core.Option.{none, some}
+use Rattle.std.specs.Prelude.{Some, None}
 use Prim.Native.Nat.{ℕ, suc, ◌+◌, ◌-◌, ◌*◌, ◌/◌, ◌%◌, ◌≤◌, ◌<◌}
 use native.Mathlib.Nat.{add-zero}
 use native.Mathlib.Omega.{arith}
@@ -117,31 +117,35 @@ module _ (d : Date) (l : LegalDate d) where
       ap (λ (k : ℕ). date_in k (day_of d)) (found (month_number_of d) (day_of d) day_falls)
       ∙ (λ i. record { day = x i; month = month_again i; year = year_again i })
 
+-- so every table has an entry for it
+pub legal_small : (d : Date) → legal_date_of d ≡ true → month_number_of d < 1200
+legal_small d e = month_small d (legal_date d e)
+
 -- exactly the legal dates have a day number
 module _ (d : Date) where
-  pub number_legal : (n : ℕ) → day_number_of d ≡ some n → LegalDate d
+  pub number_legal : (n : ℕ) → day_number_of d ≡ Some n → LegalDate d
   unfolding day_number_of
   number_legal n e = legal_date d (given (legal_date_of d) (day_of d) n e).holds
 
-  pub number_day : (n : ℕ) → day_number_of d ≡ some n → day_of d ≡ n
+  pub number_day : (n : ℕ) → day_number_of d ≡ Some n → day_of d ≡ n
   unfolding day_number_of
   number_day n e = (given (legal_date_of d) (day_of d) n e).same
 
-  pub number_none : day_number_of d ≡ none → legal_date_of d ≡ false
+  pub number_none : day_number_of d ≡ None → legal_date_of d ≡ false
   unfolding day_number_of
   number_none = missing (legal_date_of d) (day_of d)
 
 -- exactly the days of the century have a date
 module _ (n : ℕ) where
-  pub date_found_lem : (d : Date) → date_at_of n ≡ some d → n < 36525
+  pub date_found_lem : (d : Date) → date_at_of n ≡ Some d → n < 36525
   unfolding date_at_of
   date_found_lem d e = ltb-true n 36525 (given (ltb n 36525) (date_in (month_of n) n) d e).holds
 
-  pub date_is : (d : Date) → date_at_of n ≡ some d → date_in (month_of n) n ≡ d
+  pub date_is : (d : Date) → date_at_of n ≡ Some d → date_in (month_of n) n ≡ d
   unfolding date_at_of
   date_is d e = (given (ltb n 36525) (date_in (month_of n) n) d e).same
 
-  pub date_none : date_at_of n ≡ none → 36525 ≤ n
+  pub date_none : date_at_of n ≡ None → 36525 ≤ n
   unfolding date_at_of
   date_none e = ltb-false n 36525 (missing (ltb n 36525) (date_in (month_of n) n) e)
 

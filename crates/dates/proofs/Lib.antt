@@ -1,4 +1,5 @@
 mod MonthTests
+pub mod TableLaws
 pub mod MonthLaws
 pub mod DateLaws
 pub mod LentLaws

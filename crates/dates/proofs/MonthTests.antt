@@ -5,7 +5,7 @@ use mathlib.Core.List.{List, [], ◌∷◌}
 use Prim.Native.Nat.{ℕ, zero, suc, ◌+◌, ◌<◌}
 use native.Mathlib.Nat.{add-zero, zero-add, add-suc, suc-add, le_of_suc-le-suc, not-suc-le-zero}
 use lib.Dec.{T, eqb, eqb→eq}
-use lib.ListN.{length, get_or}
+use lib.ListN.{length}
 use Rattle.fields.proofs.Below.{both_left, both_right}
 use Rattle.dates.specs.Months.{days_of, first_day_of, first_days_from, first_days}
 
@@ -13,20 +13,6 @@ use Rattle.dates.specs.Months.{days_of, first_day_of, first_days_from, first_day
 abbrev pub begins : ℕ → ℕ → List ℕ → Bool
 begins k a [] = eqb a 36525
 begins k a (x ∷ xs) = eqb x a && begins (suc k) (a + days_of k) xs
-
-begins_from : (xs : List ℕ) (k : ℕ) → T (begins k (first_day_of k) xs) → (i : ℕ) → i < length xs → get_or xs i 0 ≡ first_day_of (k + i)
-unfolding first_day_of
-begins_from [] k t i h = absurd (not-suc-le-zero h)
-begins_from (x ∷ xs) k t zero h =
-    eqb→eq x (first_day_of k) (both_left (eqb x (first_day_of k)) (begins (suc k) (first_day_of (suc k)) xs) t) ∙ ap first_day_of (sym (add-zero k))
-begins_from (x ∷ xs) k t (suc i) h =
-    begins_from xs (suc k) (both_right (eqb x (first_day_of k)) (begins (suc k) (first_day_of (suc k)) xs) t) i (le_of_suc-le-suc h)
-    ∙ ap first_day_of (suc-add k i ∙ sym (add-suc k i))
-
--- each entry of a table that passes is the first day of its month
-pub table_rule : (xs : List ℕ) (k : ℕ) → T (begins 0 0 xs) → k < length xs → get_or xs k 0 ≡ first_day_of k
-unfolding first_day_of
-table_rule xs k t h = begins_from xs 0 t k h ∙ ap first_day_of (zero-add k)
 
 -- a table that passes is the list of first days
 begins_list : (xs : List ℕ) (k : ℕ) → T (begins k (first_day_of k) xs) → xs ≡ first_days_from (length xs) k

@@ -1,14 +1,6 @@
 -- Every public contract of this crate settles its result. Assumes nothing.
-use mathlib.Core.Path.{◌≡◌, refl}
-use mathlib.Core.Option.{Option, none, some}
-use Prim.Native.Nat.{ℕ}
+use mathlib.Core.Path.{refl}
 use Rattle.fields.proofs.Settles.{Settles, settled}
-use Rattle.dates.specs.Dates.{day_number, date_found}
-use Rattle.dates.specs.declared.date.Date.{Date}
-use Rattle.dates.specs.declared.date.DayNumber.{DayNumber}
-use Rattle.dates.specs.declared.date.DayNumber.TheVariants as day_number_case
-use Rattle.dates.specs.declared.date.DateFound.{DateFound}
-use Rattle.dates.specs.declared.date.DateFound.TheVariants as date_found_case
 use Rattle.dates.proofs.date.Date.legal_date.Kinds as legal_date_kinds
 use Rattle.dates.proofs.date.Date.legal_date.Reads as legal_date_reads
 use Rattle.dates.proofs.date.Date.next.Kinds as next_kinds
@@ -24,23 +16,6 @@ use Rattle.dates.proofs.lent.date_in.Reads as date_in_reads
 use Rattle.dates.proofs.table.first_days.Kinds as first_days_kinds
 use Rattle.dates.proofs.table.first_days.Reads as first_days_reads
 
--- an answer can be had back from what it says
-abbrev number_back : Option ℕ → DayNumber
-number_back (some v) = day_number_case.Day v
-number_back none = day_number_case.None
-
-number_again : (x : DayNumber) → number_back (day_number x) ≡ x
-number_again (day_number_case.Day v) = refl
-number_again day_number_case.None = refl
-
-abbrev date_back : Option Date → DateFound
-date_back (some v) = date_found_case.On v
-date_back none = date_found_case.None
-
-date_again : (x : DateFound) → date_back (date_found x) ≡ x
-date_again (date_found_case.On v) = refl
-date_again date_found_case.None = refl
-
 pub legal_date_settles : Settles 0 legal_date_kinds.ps legal_date_kinds.r legal_date_reads.Post
 legal_date_settles κs a e f x y = settled (λ z. z) (λ z. z) (λ z. refl)
 
@@ -48,16 +23,16 @@ pub next_settles : Settles 0 next_kinds.ps next_kinds.r next_reads.Post
 next_settles κs a e f x y = settled (λ z. z) (λ z. z) (λ z. refl)
 
 pub number_settles : Settles 0 number_kinds.ps number_kinds.r number_reads.Post
-number_settles κs a e f x y = settled day_number number_back number_again
+number_settles κs a e f x y = settled (λ z. z) (λ z. z) (λ z. refl)
 
 pub number_in_settles : Settles 1 number_in_kinds.ps number_in_kinds.r number_in_reads.Post
-number_in_settles κs a e f x y = settled day_number number_back number_again
+number_in_settles κs a e f x y = settled (λ z. z) (λ z. z) (λ z. refl)
 
 pub date_at_settles : Settles 0 date_at_kinds.ps date_at_kinds.r date_at_reads.Post
-date_at_settles κs a e f x y = settled date_found date_back date_again
+date_at_settles κs a e f x y = settled (λ z. z) (λ z. z) (λ z. refl)
 
 pub date_in_settles : Settles 1 date_in_kinds.ps date_in_kinds.r date_in_reads.Post
-date_in_settles κs a e f x y = settled date_found date_back date_again
+date_in_settles κs a e f x y = settled (λ z. z) (λ z. z) (λ z. refl)
 
 pub first_days_settles : Settles 0 first_days_kinds.ps first_days_kinds.r first_days_reads.Post
 first_days_settles κs a e f x y = settled (λ z. z) (λ z. z) (λ z. refl)

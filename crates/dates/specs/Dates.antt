@@ -1,13 +1,8 @@
 -- Dates and their day numbers. (rules 3.10 to 3.13)
-use Rattle.std.specs.Prelude.{Bool, cond, ◌&&◌, ℕ, zero, suc, ◌+◌, ◌-◌, ◌*◌, ltb, eqb}
-use Rattle.std.proofs.Math.Option.{Option, none, some}
+use Rattle.std.specs.Prelude.{Bool, cond, ◌&&◌, ℕ, zero, suc, ◌+◌, ◌-◌, ◌*◌, ltb, eqb, Option, Some, None}
 use Rattle.fields.specs.Digits.{value_of, byte_of, legal_of, step_of}
 use Rattle.dates.specs.Months.{last_day_of, month_byte_of, year_byte_of, days_of, first_day_of}
 use Rattle.dates.specs.declared.date.Date.{Date}
-use Rattle.dates.specs.declared.date.DayNumber.{DayNumber}
-use Rattle.dates.specs.declared.date.DayNumber.TheVariants as day_number_case
-use Rattle.dates.specs.declared.date.DateFound.{DateFound}
-use Rattle.dates.specs.declared.date.DateFound.TheVariants as date_found_case
 
 -- all three fields are legal, the day in its month (rule 3.11)
 unfoldable pub legal_date_of : Date → Bool
@@ -38,7 +33,7 @@ day_of d = first_day_of (month_number_of d) + (value_of d.day - 1)
 
 -- the day number, or none
 unfoldable pub day_number_of : Date → Option ℕ
-day_number_of d = cond (legal_date_of d) (some (day_of d)) none
+day_number_of d = cond (legal_date_of d) (Some (day_of d)) None
 
 -- the month in which the day n days after the first of month k falls, at most f months on: lengths are taken off in turn
 unfoldable pub month_from : ℕ → ℕ → ℕ → ℕ
@@ -55,13 +50,4 @@ date_in k n = record { day = byte_of (n - first_day_of k + 1); month = month_byt
 
 -- the date of a day number, or none
 unfoldable pub date_at_of : ℕ → Option Date
-date_at_of n = cond (ltb n 36525) (some (date_in (month_of n) n)) none
-
--- what the answers say
-abbrev pub day_number : DayNumber → Option ℕ
-day_number (day_number_case.Day n) = some n
-day_number day_number_case.None = none
-
-abbrev pub date_found : DateFound → Option Date
-date_found (date_found_case.On d) = some d
-date_found date_found_case.None = none
+date_at_of n = cond (ltb n 36525) (Some (date_in (month_of n) n)) None

@@ -1,6 +1,5 @@
 -- Conversions by a list of first days that is lent; they say something of any list. (rules 3.12 and 3.13)
-use Rattle.std.specs.Prelude.{cond, List, ℕ, min, ◌+◌, ◌-◌, ◌*◌, ◌/◌, leb, ltb, get_or}
-use Rattle.std.proofs.Math.Option.{Option, none, some}
+use Rattle.std.specs.Prelude.{cond, List, ℕ, min, ◌+◌, ◌-◌, ◌*◌, ◌/◌, leb, ltb, get_or, Option, Some, None}
 use Rattle.fields.specs.Digits.{value_of, byte_of}
 use Rattle.dates.specs.Months.{month_byte_of, year_byte_of}
 use Rattle.dates.specs.Dates.{legal_date_of, month_number_of}
@@ -16,7 +15,7 @@ day_by l d = day_from (get_or l (month_number_of d) 0) d.day
 
 -- the day number by a list of first days, or none
 unfoldable pub day_number_in_of : List ℕ → Date → Option ℕ
-day_number_in_of l d = cond (legal_date_of d) (some (day_by l d)) none
+day_number_in_of l d = cond (legal_date_of d) (Some (day_by l d)) None
 
 -- 487 days to 16 months: the month of day n or the one after it
 abbrev pub guess_of : ℕ → ℕ
@@ -40,4 +39,4 @@ date_by l n = date_from n (month_in_of l n) (get_or l (month_in_of l n) 0)
 
 -- the date of a day number by a list of first days, or none
 unfoldable pub date_in_of : List ℕ → ℕ → Option Date
-date_in_of l n = cond (ltb n 36525) (some (date_by l n)) none
+date_in_of l n = cond (ltb n 36525) (Some (date_by l n)) None

@@ -6,6 +6,6 @@ mod lent;
 mod months;
 mod table;
 
-pub use date::{Date, DateFound, DayNumber, date_at};
+pub use date::{Date, date_at};
 pub use lent::date_in;
 pub use table::first_days;

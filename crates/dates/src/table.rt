@@ -1,9 +1,9 @@
 // The first day numbers of all 1,200 months, and the guess at the month of a day. (rule 3.13)
 ghost use Rattle.std.specs.Prelude.{◌≡◌, ◌/◌, ◌<◌};
-ghost use Rattle.dates.specs.Months.{first_day_of, first_days};
+ghost use Rattle.dates.specs.Months.{first_days};
 ghost use Rattle.dates.specs.Lent.{guess_of};
 
-const FIRST_DAYS: [u16; 1200] = [
+pub(crate) static FIRST_DAYS: [u16; 1200] = [
     0, 31, 60, 91, 121, 152, 182, 213, 244, 274, 305, 335, 366, 397, 425, 456, 486, 517, 547, 578,
     609, 639, 670, 700, 731, 762, 790, 821, 851, 882, 912, 943, 974, 1004, 1035, 1065, 1096, 1127,
     1155, 1186, 1216, 1247, 1277, 1308, 1339, 1369, 1400, 1430, 1461, 1492, 1521, 1552, 1582, 1613,
@@ -95,62 +95,11 @@ const FIRST_DAYS: [u16; 1200] = [
 ];
 
 // The table as a value: whoever converts many numbers makes it once and lends it.
+#[tactic(auto, using(crate::proofs::TableLaws::table_days))]
 pub fn first_days() -> [u16; 1200]
     ensures { result ≡ first_days }
 {
     FIRST_DAYS
-}
-
-// The day number on which month k begins.
-pub(crate) fn first_day(k: usize) -> u16
-    requires { k < 1200 }
-    ensures { result ≡ first_day_of k }
-{
-    match k / 480 {
-        0 => first_decades(k),
-        1 => middle_decades(k),
-        _ => last_decades(k),
-    }
-}
-
-// Of a constant array only entries that a place can reach are laid on the stack: a decade here, not a century.
-fn first_decades(k: usize) -> u16
-    requires { k / 480 ≡ 0 }
-    ensures { result ≡ first_day_of k }
-{
-    let m = k % 120;
-    match k / 120 {
-        0 => FIRST_DAYS[m],
-        1 => FIRST_DAYS[120 + m],
-        2 => FIRST_DAYS[240 + m],
-        _ => FIRST_DAYS[360 + m],
-    }
-}
-
-// As in the first decades.
-fn middle_decades(k: usize) -> u16
-    requires { k / 480 ≡ 1 }
-    ensures { result ≡ first_day_of k }
-{
-    let m = k % 120;
-    match k / 120 {
-        4 => FIRST_DAYS[480 + m],
-        5 => FIRST_DAYS[600 + m],
-        6 => FIRST_DAYS[720 + m],
-        _ => FIRST_DAYS[840 + m],
-    }
-}
-
-// As in the first decades.
-fn last_decades(k: usize) -> u16
-    requires { k / 240 ≡ 4 }
-    ensures { result ≡ first_day_of k }
-{
-    let m = k % 120;
-    match k / 120 {
-        8 => FIRST_DAYS[960 + m],
-        _ => FIRST_DAYS[1080 + m],
-    }
 }
 
 // 487 days to 16 months: the month of day n or the one after it.
@@ -158,6 +107,5 @@ pub(crate) fn guess(n: u64) -> usize
     requires { n < 36525 }
     ensures { result ≡ guess_of n }
 {
-    let e = (n * 16 + 40) / 487;
-    if e < 1200 { e as usize } else { 1199 }
+    ((n * 16 + 40) / 487).min(1199) as usize
 }

@@ -1,12 +1,9 @@
 -- The fault of an event is told by its rows: 2 before 3, and 0 where neither holds. Assumes nothing.
-use mathlib.Core.Path.{◌≡◌, refl}
-use mathlib.Core.Bool.{Bool, cond, ◌&&◌, not}
-use Prim.Native.Nat.{ℕ, ◌≤◌, ◌<◌}
-use native.Mathlib.Omega.{arith}
-use lib.Dec.{eqb}
+use Rattle.std.proofs.Common.{◌≡◌, refl, true, false, cond, ℕ, ◌≤◌, ◌<◌, arith}
+use Rattle.std.proofs.lemmas.Bool.Decides.{nat_tests}
 use Rattle.events.specs.Refusal.{fields_of, fault_of}
 use Rattle.events.specs.Rows.{Row2, Row3, Row3.count as count_used, Row3.pulses as no_pulses, Sound}
-use Rattle.events.proofs.Telling.{Tells, less, equal, turned, chosen, also, opposite}
+use Rattle.events.proofs.Telling.{Tells, told, less, equal, either, chosen}
 
 -- a row of an event that holds, and its refusal
 pub data Fault (k b n : ℕ) : ℕ → Type 0 where
@@ -36,38 +33,20 @@ module _ {k b n : ℕ} where
   one_judged (fault f) (fault g) = one_fault f g
 
 module _ (k b n : ℕ) where
-  not3 : ((k ≡ 2 → ⊥) → b ≡ 0) → ((k ≡ 5 → ⊥) → n ≡ 0) → (k ≡ 5 → n ≡ 0 → ⊥) → Row3 k b n → ⊥
-  not3 x y z (Row3.byte m l) = l (x m)
-  not3 x y z (Row3.count m l) = l (y m)
-  not3 x y z (Row3.pulses e o) = z e o
+  fields_sound : fields_of k b n ≡ true → Row3 k b n → ⊥
+  fields_sound e (Row3.byte m l) = grind (arith, nat_tests)
+  fields_sound e (Row3.count m l) = grind (arith, nat_tests)
+  fields_sound e (Row3.pulses f o) = grind (arith, nat_tests)
 
-  abbrev Row3_test : Bool → Type 0
-  Row3_test = Tells (Row3 k b n → ⊥) (Row3 k b n)
+  fields_due : fields_of k b n ≡ false → Row3 k b n
+  fields_due e =
+      either (equal k 2) (λ e2. count_used (omega arith) (grind (arith, nat_tests)))
+      (λ n2. either (equal b 0)
+      (λ z. either (equal k 5) (λ e5. no_pulses e5 (grind (arith, nat_tests))) (λ n5. count_used n5 (grind (arith, nat_tests))))
+      (λ m. Row3.byte n2 m))
 
-  of_two : k ≡ 2 → Row3_test (eqb n 0)
-  of_two e = turned (equal n 0) (λ z. not3 (λ m. absurd (m e)) (λ _. z) (λ e5. omega arith)) (λ m. Row3.count (omega arith) m)
-
-  unused : (k ≡ 2 → ⊥) → Tells (b ≡ 0) (Row3 k b n) (eqb b 0)
-  unused n2 = turned (equal b 0) (λ z. z) (λ m. Row3.byte n2 m)
-
-  of_five : k ≡ 5 → Row3_test (eqb b 0 && not (eqb n 0))
-  of_five e =
-      turned (also (unused (omega arith)) (λ _. turned (opposite (equal n 0)) (λ m. m) (no_pulses e)))
-      (λ p. not3 (λ _. p.0) (λ m. absurd (m e)) (λ _. p.1))
-      (λ r. r)
-
-  of_others : (k ≡ 2 → ⊥) → (k ≡ 5 → ⊥) → Row3_test (eqb b 0 && eqb n 0)
-  of_others n2 n5 =
-      turned (also (unused n2) (λ _. turned (equal n 0) (λ z. z) (count_used n5)))
-      (λ p. not3 (λ _. p.0) (λ _. p.1) (λ e. absurd (n5 e)))
-      (λ r. r)
-
-  row3 : Row3_test (fields_of k b n)
-  row3 =
-      let five = eqb b 0 && not (eqb n 0) in
-      let others = eqb b 0 && eqb n 0 in
-      chosen Row3_test (eqb n 0) (cond (eqb k 5) five others) (equal k 2) of_two
-      (λ n2. chosen Row3_test five others (equal k 5) of_five (of_others n2))
+  row3 : Tells (Row3 k b n → ⊥) (Row3 k b n) (fields_of k b n)
+  row3 = told (fields_of k b n) fields_sound fields_due
 
   pub judged : Judged k b n (fault_of k b n)
   judged =

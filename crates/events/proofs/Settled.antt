@@ -1,40 +1,43 @@
 -- Every public contract of this crate settles its result. Assumes nothing.
-use mathlib.Core.Path.{◌≡◌, refl}
-use mathlib.Core.Bool.{Bool, true, false, cond}
-use mathlib.Core.List.{List}
-use Prim.Native.Nat.{ℕ, ◌+◌, ◌-◌, ◌*◌, ◌/◌, ◌%◌, ◌≤◌}
-use native.Mathlib.Omega.{arith}
-use lib.Dec.{eqb, ltb}
-use lib.ListN.{get_or}
-use borrow.Author.Tests.{ltb-true, ltb-false, lt-ltb, le-ltb, ne_eqb}
+use Rattle.std.proofs.Common.{◌≡◌, refl, sym, ap, ◌∙◌, cond, List, ℕ, ◌+◌, ◌-◌, ◌*◌, arith, get_or, eqb, ltb, Option, Some, None, Result, Ok, Err, IfOk, false}
+use Rattle.std.proofs.lemmas.Bool.Decides.{nat_tests}
+use Rattle.std.proofs.lemmas.Result.{IfOk-at_ok}
 use Rattle.fields.proofs.Settles.{Settles, settled}
 use Rattle.events.specs.declared.answer.Answer.{Answer}
 use Rattle.events.specs.declared.answer.Answer.TheVariants as answer
 use Rattle.events.specs.declared.refusal.Refusal.{Refusal}
 use Rattle.events.specs.declared.refusal.Refusal.TheVariants as refusal
-use Rattle.events.specs.Answer.{digit_of, text_of}
-use Rattle.events.specs.Refusal.{number_of}
+use Rattle.events.specs.declared.event.Event.{Event}
+use Rattle.events.specs.declared.kind.Kind.{Kind}
+use Rattle.events.specs.declared.kind.Kind.TheVariants as kind
+use Rattle.events.specs.Kind.{event_of}
+use Rattle.events.specs.Answer.{text_of}
+use Rattle.events.specs.Refusal.{number_of, option_number, result_number, fault_in}
 use Rattle.events.proofs.answer.Answer.text.Kinds as text_kinds
 use Rattle.events.proofs.answer.Answer.text.Reads as text_reads
 use Rattle.events.proofs.refusal.Refusal.number.Kinds as number_kinds
 use Rattle.events.proofs.refusal.Refusal.number.Reads as number_reads
-use Rattle.events.proofs.refusal.fault.Kinds as fault_kinds
-use Rattle.events.proofs.refusal.fault.Reads as fault_reads
+use Rattle.events.proofs.kind.fault.Kinds as fault_kinds
+use Rattle.events.proofs.kind.fault.Reads as fault_reads
+use Rattle.events.proofs.answer.AnswerFromBool.from.Kinds as from_kinds
+use Rattle.events.proofs.answer.AnswerFromBool.from.Reads as from_reads
+use Rattle.events.proofs.kind.EventFromKind.from.Kinds as event_kinds
+use Rattle.events.proofs.kind.EventFromKind.from.Reads as event_reads
+use Rattle.events.proofs.kind.KindTryFromEvent.try_from.Kinds as kind_kinds
+use Rattle.events.proofs.kind.KindTryFromEvent.try_from.Reads as kind_reads
 
 -- a refusal can be had back from its number
 abbrev pub refusal_back : ℕ → Refusal
 refusal_back n =
-    cond (eqb n 0) refusal.None
-    (cond (eqb n 1) refusal.State
+    cond (eqb n 1) refusal.State
     (cond (eqb n 2) refusal.Kind
     (cond (eqb n 3) refusal.Field
     (cond (eqb n 4) refusal.Short
     (cond (eqb n 5) refusal.Section
     (cond (eqb n 6) refusal.Start
-    (cond (eqb n 7) refusal.Output refusal.Long)))))))
+    (cond (eqb n 7) refusal.Output refusal.Long))))))
 
 pub refusal_again : (x : Refusal) → refusal_back (number_of x) ≡ x
-refusal_again refusal.None = refl
 refusal_again refusal.State = refl
 refusal_again refusal.Kind = refl
 refusal_again refusal.Field = refl
@@ -47,23 +50,6 @@ refusal_again refusal.Long = refl
 -- a digit from its character
 abbrev digit_back : ℕ → ℕ
 digit_back x = cond (ltb x 58) (x - 48) (x - 55)
-
--- the characters of digits are those from 0 to 9 and from A on
-record Digit (d : ℕ) : Type 0 where
-  back : digit_back (digit_of d) ≡ d
-  low : 48 ≤ digit_of d
-  high : digit_of d ≤ 55 + d
-
-digit_by : (d : ℕ) (small : Bool) → ltb d 10 ≡ small → Digit d
-digit_by d true e =
-    let h = ltb-true d 10 e in
-    record { back = simp (e, lt-ltb (48 + d) 58 (omega arith)) (omega arith); low = simp e (omega arith); high = simp e (omega arith) }
-digit_by d false e =
-    let h = ltb-false d 10 e in
-    record { back = simp (e, le-ltb (55 + d) 58 (omega arith)) (omega arith); low = simp e (omega arith); high = simp e (omega arith) }
-
-digit : (d : ℕ) → Digit d
-digit d = digit_by d (ltb d 10) refl
 
 -- an answer from its two characters: K and - are no digits
 abbrev answer_from : ℕ → ℕ → Answer
@@ -78,16 +64,58 @@ pub answer_again : (x : Answer) → answer_back (text_of x) ≡ x
 answer_again answer.Quiet = refl
 answer_again answer.Ack = refl
 answer_again answer.Nak = refl
-answer_again (answer.Byte b) =
-    let y = digit (b % 16) in
-    let whole : b / 16 * 16 + b % 16 ≡ b = omega arith in
-    simp (
-      ne_eqb (digit_of (b % 16)) 75 (λ e. omega (arith, y.high)),
-      ne_eqb (digit_of (b % 16)) 45 (λ e. omega (arith, y.low)),
-      (digit (b / 16)).back,
-      y.back,
-      whole,
-    )
+answer_again (answer.Byte b) = grind (arith, nat_tests)
+
+-- no refusal has the number of none
+pub number_not0 : (x : Refusal) → eqb (number_of x) 0 ≡ false
+number_not0 refusal.State = refl
+number_not0 refusal.Kind = refl
+number_not0 refusal.Field = refl
+number_not0 refusal.Short = refl
+number_not0 refusal.Section = refl
+number_not0 refusal.Start = refl
+number_not0 refusal.Output = refl
+number_not0 refusal.Long = refl
+
+abbrev pub option_back : ℕ → Option Refusal
+option_back n = cond (eqb n 0) None (Some (refusal_back n))
+
+pub option_again : (x : Option Refusal) → option_back (option_number x) ≡ x
+option_again None = refl
+option_again (Some x) = simp (number_not0 x, refusal_again x)
+
+-- a result from its number, and from what it holds where it is no refusal
+abbrev pub result_back : {T : Type 0} → T → ℕ → Result T Refusal
+result_back x n = cond (eqb n 0) (Ok x) (Err (refusal_back n))
+
+pub result_again : {T : Type 0} (x : T) (r : Result T Refusal) → ((y : T) → r ≡ Ok y → x ≡ y) → result_back x (result_number r) ≡ r
+result_again x (Ok y) same = ap Ok (same y refl)
+result_again x (Err r) same = simp (number_not0 r, refusal_again r)
+
+-- a kind from its event
+abbrev kind_back : Event → Kind
+kind_back e =
+    cond (eqb e.kind 0) kind.Start
+    (cond (eqb e.kind 1) kind.Stop
+    (cond (eqb e.kind 2) (kind.Byte e.byte)
+    (cond (eqb e.kind 3) kind.ReadAck
+    (cond (eqb e.kind 4) kind.ReadNak
+    (cond (eqb e.kind 5) (kind.Pulses e.count) kind.PowerLoss)))))
+
+pub kind_again : (x : Kind) → kind_back (event_of x) ≡ x
+kind_again kind.Start = refl
+kind_again kind.Stop = refl
+kind_again (kind.Byte b) = refl
+kind_again kind.ReadAck = refl
+kind_again kind.ReadNak = refl
+kind_again (kind.Pulses n) = refl
+kind_again kind.PowerLoss = refl
+
+kind_only : (e : Event) (r : Result Kind Refusal) → (result_number r ≡ fault_in e) × IfOk r (λ k. event_of k ≡ e) →
+    result_back (kind_back e) (fault_in e) ≡ r
+kind_only e r p =
+    ap (result_back (kind_back e)) (sym p.0)
+    ∙ result_again (kind_back e) r (λ k o. ap kind_back (sym (IfOk-at_ok (λ k. event_of k ≡ e) o p.1)) ∙ kind_again k)
 
 pub text_settles : Settles 0 text_kinds.ps text_kinds.r text_reads.Post
 text_settles κs a e f x y = settled (λ z. z) (λ z. z) (λ z. refl)
@@ -96,4 +124,13 @@ pub number_settles : Settles 0 number_kinds.ps number_kinds.r number_reads.Post
 number_settles κs a e f x y = settled (λ z. z) (λ z. z) (λ z. refl)
 
 pub fault_settles : Settles 0 fault_kinds.ps fault_kinds.r fault_reads.Post
-fault_settles κs a e f x y = settled number_of refusal_back refusal_again
+fault_settles κs a e f x y = settled result_number (result_back tt) (λ r. result_again tt r (λ z o. refl))
+
+pub acknowledged_settles : Settles 0 from_kinds.ps from_kinds.r from_reads.Post
+acknowledged_settles κs a e f x y = settled (λ z. z) (λ z. z) (λ z. refl)
+
+pub event_settles : Settles 0 event_kinds.ps event_kinds.r event_reads.Post
+event_settles κs a e f x y = settled (λ z. z) (λ z. z) (λ z. refl)
+
+pub kind_settles : Settles 0 kind_kinds.ps kind_kinds.r kind_reads.Post
+kind_settles κs a e f x y p q = sym (kind_only a.0 x p) ∙ kind_only a.0 y q

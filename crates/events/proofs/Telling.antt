@@ -1,10 +1,6 @@
 -- A test that tells which of two statements holds, so that a choice by it is proved from the statements alone. Assumes nothing.
-use mathlib.Core.Path.{◌≡◌, refl}
-use mathlib.Core.Bool.{Bool, true, false, cond, ◌&&◌, ◌||◌, not}
-use mathlib.Core.Logic.{◌⊎◌, inl, inr}
-use Prim.Native.Nat.{ℕ, ◌≤◌, ◌<◌}
-use lib.Dec.{eqb, ltb, leb}
-use borrow.Author.Tests.{ltb-true, ltb-false, leb-true, leb-false, eqb-true, eqb-false}
+use Rattle.std.proofs.Common.{◌≡◌, refl, Bool, true, false, cond, ◌&&◌, ◌||◌, ◌⊎◌, inl, inr, ℕ, ◌≤◌, ◌<◌, eqb, ltb, leb, ltb-true, ltb-false, leb-true, leb-false, eqb-true}
+use Rattle.std.proofs.lemmas.Bool.{eqb-false}
 
 pub data Tells (P Q : Type 0) : Bool → Type 0 where
   holds : P → Tells P Q true
@@ -45,10 +41,6 @@ module _ {P Q : Type 0} where
   pub is_false : {b : Bool} → Tells P Q b → (P → ⊥) → b ≡ false
   is_false (holds p) n = absurd (n p)
   is_false (fails q) n = refl
-
-  pub opposite : {b : Bool} → Tells P Q b → Tells Q P (not b)
-  opposite (holds p) = fails p
-  opposite (fails q) = holds q
 
   -- the second test may build on what the first has shown
   pub also : {R : Type 0} {a b : Bool} → Tells P R a → (P → Tells Q R b) → Tells (P × Q) R (a && b)

@@ -1,7 +1,11 @@
 -- What an answer says. (rule 8.1)
-use Rattle.std.specs.Prelude.{cond, List, [], ◌∷◌, ℕ, ◌+◌, ◌/◌, ◌%◌, ltb}
+use Rattle.std.specs.Prelude.{Bool, cond, List, [], ◌∷◌, ℕ, ◌+◌, ◌/◌, ◌%◌, ltb}
 use Rattle.events.specs.declared.answer.Answer.{Answer}
 use Rattle.events.specs.declared.answer.Answer.TheVariants.{Quiet, Ack, Nak, Byte}
+
+-- acknowledged or not
+abbrev pub acknowledged : Bool → Answer
+acknowledged ack = cond ack Ack Nak
 
 -- the character of a hexadecimal digit, in upper case
 abbrev pub digit_of : ℕ → ℕ

@@ -3,8 +3,10 @@
 
 mod answer;
 mod event;
+mod kind;
 mod refusal;
 
 pub use answer::Answer;
 pub use event::Event;
-pub use refusal::{Refusal, fault};
+pub use kind::{Kind, fault};
+pub use refusal::Refusal;

@@ -1,5 +1,8 @@
 // The pulses of an event, one by one, and what happened in each. (rules 11.6 and 11.8)
-use crate::pen::{print, print_decimal, print_letter, print_number};
+use crate::pen::Number;
+use calendar::Time;
+use control::Level;
+use events::{Event, Kind};
 use facts::{Moment, moment_of};
 use sd2068::Clock;
 use std::io;
@@ -7,8 +10,16 @@ use std::io;
 // Of what may happen every few pulses, as many as have lines of their own in one event.
 const MOST_LINES: u32 = 64;
 
-// How often each has happened in an event, which has 65,535 pulses at most.
+// What happened in one pulse, the time behind it, and where the pin has moved to, if it has.
 #[derive(Clone, Copy)]
+struct Pulse {
+    moment: Moment,
+    time: Time,
+    moved: Option<Level>,
+}
+
+// How often each has happened in an event, which has 65,535 pulses at most.
+#[derive(Clone, Copy, Default)]
 struct Counts {
     seconds: u32,
     alarms: u32,
@@ -16,121 +27,59 @@ struct Counts {
     pins: u32,
 }
 
-fn print_pulse(rt: &impl Print, k: u16) -> io::Result<()> {
-    print(rt, b"pulse")?;
-    print_decimal(rt, k as u64)
-}
-
-// One more if it has happened.
-fn with(count: u32, happened: bool) -> u32 {
-    if happened {
-        count.wrapping_add(1)
-    } else {
-        count
+impl Counts {
+    fn with(self, p: &Pulse) -> Counts {
+        Counts {
+            seconds: self.seconds.wrapping_add(p.moment.second as u32),
+            alarms: self.alarms.wrapping_add(p.moment.alarm as u32),
+            zeros: self.zeros.wrapping_add(p.moment.zero as u32),
+            pins: self.pins.wrapping_add(p.moved.is_some() as u32),
+        }
     }
 }
 
-fn print_timeout(rt: &impl Print, k: u16, happened: bool) -> io::Result<()> {
-    if happened {
-        print_pulse(rt, k)?;
-        print(rt, b" timeout\n")?;
+impl Pulse {
+    // Its lines as pulse k, in the order of a pulse's stages.
+    fn print(&self, rt: &impl Print, k: u16, before: Counts) -> io::Result<()> {
+        if self.moment.timeout {
+            println!(rt; "pulse {k} timeout")?;
+        }
+        if self.moment.zero & (before.zeros < MOST_LINES) {
+            println!(rt; "pulse {k} zero")?;
+        }
+        if self.moment.second {
+            println!(rt; "pulse {k} second {}", Number(self.time))?;
+        }
+        if self.moment.alarm {
+            println!(rt; "pulse {k} alarm")?;
+        }
+        match self.moved {
+            Some(level) if before.pins < MOST_LINES => {
+                println!(rt; "pulse {k} pin {}", level.letter() as char)
+            }
+            _ => Ok(()),
+        }
     }
-    Ok(())
-}
-
-fn print_zero(rt: &impl Print, k: u16, happened: bool, before: u32) -> io::Result<()> {
-    if happened & (before < MOST_LINES) {
-        print_pulse(rt, k)?;
-        print(rt, b" zero\n")?;
-    }
-    Ok(())
-}
-
-fn print_second(rt: &impl Print, k: u16, happened: bool, after: Clock) -> io::Result<()> {
-    if happened {
-        print_pulse(rt, k)?;
-        print(rt, b" second")?;
-        print_number(rt, after.hand.time)?;
-        print(rt, b"\n")?;
-    }
-    Ok(())
-}
-
-fn print_alarm(rt: &impl Print, k: u16, happened: bool) -> io::Result<()> {
-    if happened {
-        print_pulse(rt, k)?;
-        print(rt, b" alarm\n")?;
-    }
-    Ok(())
-}
-
-fn print_pin(rt: &impl Print, k: u16, happened: bool, before: u32, letter: u8) -> io::Result<()> {
-    if happened & (before < MOST_LINES) {
-        print_pulse(rt, k)?;
-        print(rt, b" pin")?;
-        print_letter(rt, letter)?;
-        print(rt, b"\n")?;
-    }
-    Ok(())
-}
-
-// The lines of pulse k, in the order of a pulse's stages, and the counts with it.
-fn print_moment(
-    rt: &impl Print,
-    k: u16,
-    m: Moment,
-    after: Clock,
-    letter: u8,
-    moved: bool,
-    c: Counts,
-) -> io::Result<Counts> {
-    print_timeout(rt, k, m.timeout)?;
-    print_zero(rt, k, m.zero, c.zeros)?;
-    print_second(rt, k, m.second, after)?;
-    print_alarm(rt, k, m.alarm)?;
-    print_pin(rt, k, moved, c.pins, letter)?;
-    Ok(Counts {
-        seconds: with(c.seconds, m.second),
-        alarms: with(c.alarms, m.alarm),
-        zeros: with(c.zeros, m.zero),
-        pins: with(c.pins, moved),
-    })
-}
-
-fn letter_of(c: Clock) -> u8 {
-    let pin = c.pin();
-    pin.letter()
-}
-
-fn print_counts(rt: &impl Print, c: Counts) -> io::Result<()> {
-    print(rt, b"counts")?;
-    print_decimal(rt, c.seconds as u64)?;
-    print_decimal(rt, c.alarms as u64)?;
-    print_decimal(rt, c.zeros as u64)?;
-    print_decimal(rt, c.pins as u64)?;
-    print(rt, b"\n")
 }
 
 pub(crate) fn print_pulses(rt: &impl Print, before: Clock, count: u16) -> io::Result<()> {
     let mut clock = before;
-    let mut letter = letter_of(before);
-    let mut counts = Counts {
-        seconds: 0,
-        alarms: 0,
-        zeros: 0,
-        pins: 0,
-    };
-    let mut k = 0;
-    while k < count {
-        k = k + 1;
-        let done = clock.step(5, 0, 1);
-        let after = done.clock;
-        let pin = done.pin;
-        let now = pin.letter();
-        let m = moment_of(clock, after);
-        counts = print_moment(rt, k, m, after, now, now != letter, counts)?;
-        letter = now;
-        clock = after;
+    let mut pin = before.pin();
+    let mut counts = Counts::default();
+    for k in 1..=count {
+        let done = clock.step(Event::from(Kind::Pulses(1)));
+        let pulse = Pulse {
+            moment: moment_of(clock, done.clock),
+            time: done.clock.hand.time,
+            moved: (done.pin != pin).then_some(done.pin),
+        };
+        pulse.print(rt, k, counts)?;
+        counts = counts.with(&pulse);
+        pin = done.pin;
+        clock = done.clock;
     }
-    print_counts(rt, counts)
+    println!(rt;
+        "counts {} {} {} {}",
+        counts.seconds, counts.alarms, counts.zeros, counts.pins
+    )
 }

@@ -1,10 +1,7 @@
 -- Each deed says what the step does: its case is the step's case. Assumes nothing.
-use mathlib.Core.Path.{◌≡◌, refl, sym, ◌∙◌, subst}
-use mathlib.Core.Bool.{Bool, true, false, cond, ◌&&◌, not, true≢false}
-use Prim.Native.Nat.{ℕ, ◌+◌, ◌≤◌, ◌<◌}
-use native.Mathlib.Omega.{arith}
-use lib.Dec.{eqb, ltb}
-use borrow.Author.Tests.{eqb-true, eqb-false, ltb-true, ltb-false, lt-ltb, ne_eqb}
+use Rattle.std.proofs.Common.{◌≡◌, refl, sym, ◌∙◌, Bool, true, false, cond, ◌&&◌, not, true≢false, ℕ, ◌≤◌, ◌<◌, arith, eqb, ltb, eqb-true, ltb-true, ltb-false, ne_eqb}
+use Rattle.std.proofs.lemmas.Bool.{eqb-false}
+use Rattle.std.proofs.lemmas.Bool.Decides.{nat_tests}
 use Rattle.fields.proofs.FieldLaws.{and_left, and_right, and_false}
 use Rattle.bus.specs.declared.phase.Mode.{Mode}
 use Rattle.bus.specs.declared.phase.Mode.TheVariants.{Address, Pointer, Writing, Reading, Deaf}
@@ -35,12 +32,12 @@ use Rattle.facts.specs.Done.{Done, Done.opened, Done.repeated, Done.idle, Done.c
 
 -- behind the time the pointer has not come to 00h
 pub goes_on : (p : ℕ) → p < 0x07 → eqb (next_of p) 0x00 ≡ false
-goes_on p h = simp (lt-ltb p 0x1F (omega arith)) (ne_eqb (p + 1) 0 (λ e. omega arith))
+goes_on p h = grind (arith, nat_tests)
 
 -- a read's kind, by whether the master acknowledges
 read_kind : (kind : ℕ) (ack : Bool) → kind ≡ cond ack 3 4 → ReadKind kind ack
-read_kind kind true k = subst (λ (m : ℕ). ReadKind m true) (sym k) with_ack
-read_kind kind false k = subst (λ (m : ℕ). ReadKind m false) (sym k) with_nak
+read_kind kind true k = rw k with_ack
+read_kind kind false k = rw k with_nak
 
 module _ (kind b n : ℕ) where
   -- START, on a state whose bus is spelled out

@@ -1,10 +1,6 @@
 -- What is told of a pulse from the states on both sides of it is what its stages did. Assumes nothing.
-use mathlib.Core.Path.{◌≡◌, refl, ap, ◌∙◌}
-use mathlib.Core.Bool.{Bool, true, false, cond, ◌&&◌, not}
-use Prim.Native.Nat.{ℕ, zero, suc, ◌+◌, ◌-◌, ◌≤◌}
-use native.Mathlib.Omega.{arith}
-use lib.Dec.{eqb, ltb}
-use borrow.Author.Tests.{ne_eqb}
+use Rattle.std.proofs.Common.{◌≡◌, refl, ap, ◌∙◌, Bool, true, false, cond, ◌&&◌, not, ℕ, zero, suc, ◌-◌, ◌≤◌, arith, eqb}
+use Rattle.std.proofs.lemmas.Bool.Decides.{nat_tests}
 use Rattle.calendar.specs.Repeat.{times}
 use Rattle.hand.specs.Hand.{ticked_of}
 use Rattle.hand.proofs.SecondLaws.{counter_tells}
@@ -12,7 +8,7 @@ use Rattle.alarm.specs.Alarm as alarm
 use Rattle.countdown.specs.Countdown as countdown
 use Rattle.bus.specs.declared.phase.Phase.{Phase}
 use Rattle.bus.specs.declared.phase.Phase.TheVariants.{Closed, Open}
-use Rattle.bus.specs.Phase.{older_in, closed_bus}
+use Rattle.bus.specs.Phase.{older_in}
 use Rattle.sd2068.specs.declared.clock.Clock.{Clock}
 use Rattle.sd2068.specs.Step.{step_of}
 use Rattle.sd2068.specs.Pulse.{pulse_of, pulses_of}
@@ -23,16 +19,12 @@ use Rattle.facts.specs.Moments.{open_of, moment_of, ended_of, rang_of, zeroed_of
 -- a pin pulse is whole only where it has just begun
 whole : (begun : Bool) (p : ℕ) → p ≤ 8192 → eqb (cond begun 8192 (p - 1)) 8192 ≡ begun
 whole true p h = refl
-whole false p h = ne_eqb (p - 1) 8192 (λ e. omega arith)
+whole false p h = grind (arith, nat_tests)
 
 -- an open transfer is closed by a pulse only at its age
 closing : (f : Phase) (p : ℕ) → open_of f && not (open_of (older_in f p 1).phase) ≡ timed_out_of f
 closing Closed p = refl
-closing (Open m t) p = by (ltb (t.age + 1) 16384)
-  where
-    by : (young : Bool) → not (open_of (cond young (record { pointer = p; phase = Open m (record { age = t.age + 1; marked = t.marked }) }) closed_bus).phase) ≡ not young
-    by true = refl
-    by false = refl
+closing (Open m t) p = grind (arith, nat_tests)
 
 module _ (c : Clock) (w : Well c) where
   timeout : (moment_of c (pulse_of c)).timeout ≡ timed_out_of c.bus.phase

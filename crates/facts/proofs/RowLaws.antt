@@ -1,8 +1,5 @@
 -- A row fits an event only with the event's deed and result, so no two deeds fit one event. Assumes nothing.
-use mathlib.Core.Path.{◌≡◌, refl, sym, ◌∙◌}
-use mathlib.Core.Bool.{Bool, true, false, ◌&&◌, true≢false}
-use Prim.Native.Nat.{ℕ}
-use borrow.Author.Tests.{lt-ltb, le-ltb, ne_eqb}
+use Rattle.std.proofs.Common.{◌≡◌, refl, sym, ◌∙◌, Bool, true, false, ◌&&◌, true≢false, ℕ, lt-ltb, le-ltb, ne_eqb}
 use Rattle.bus.specs.declared.phase.Mode.TheVariants.{Address, Pointer, Writing, Reading, Deaf}
 use Rattle.bus.specs.declared.phase.Phase.{Phase}
 use Rattle.bus.specs.declared.phase.Phase.TheVariants as phase
@@ -28,9 +25,9 @@ use Rattle.facts.proofs.DeedLaws.{goes_on}
 unheard_fits : (c : Clock) (p b : ℕ) (f : Phase) → hears f ≡ false → let d = with_bus c (record { pointer = p; phase = f }) in (deed.Unheard ≡ byte_deed d b) × (answering Nak d ≡ byte_of d b)
 unfolding byte_of heard_of
 unheard_fits c p b phase.Closed e = (refl, refl)
-unheard_fits c p b (phase.Open Address t) e = absurd (true≢false e)
-unheard_fits c p b (phase.Open Pointer t) e = absurd (true≢false e)
-unheard_fits c p b (phase.Open Writing t) e = absurd (true≢false e)
+unheard_fits c p b (phase.Open Address t) e = cc
+unheard_fits c p b (phase.Open Pointer t) e = cc
+unheard_fits c p b (phase.Open Writing t) e = cc
 unheard_fits c p b (phase.Open Reading t) e = (refl, refl)
 unheard_fits c p b (phase.Open Deaf t) e = (refl, refl)
 
@@ -40,7 +37,7 @@ silent_fits c p ack phase.Closed e = (refl, refl)
 silent_fits c p ack (phase.Open Address t) e = (refl, refl)
 silent_fits c p ack (phase.Open Pointer t) e = (refl, refl)
 silent_fits c p ack (phase.Open Writing t) e = (refl, refl)
-silent_fits c p ack (phase.Open Reading t) e = absurd (true≢false e)
+silent_fits c p ack (phase.Open Reading t) e = cc
 silent_fits c p ack (phase.Open Deaf t) e = (refl, refl)
 
 -- a read's deed and result are those of its kind

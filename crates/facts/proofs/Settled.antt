@@ -1,5 +1,5 @@
 -- Every public contract of this crate settles its result. Assumes nothing.
-use mathlib.Core.Path.{refl}
+use Rattle.std.proofs.Common.{refl}
 use Rattle.fields.proofs.Settles.{Settles, settled}
 use Rattle.facts.proofs.deeds.deed_of.Kinds as deed_kinds
 use Rattle.facts.proofs.deeds.deed_of.Reads as deed_reads

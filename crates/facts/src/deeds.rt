@@ -1,9 +1,10 @@
 // What an event does to a state, told from the state before it. (rules 11.1 to 11.5)
 ghost use Rattle.std.specs.Prelude.{◌≡◌};
-ghost use Rattle.facts.specs.Deeds.{start_deed, stop_deed, address_deed, pointer_deed, data_deed, heard_deed, byte_deed, register_deed, sent_deed, read_deed, event_deed, deed_of};
+ghost use Rattle.events.specs.Kind.{event_of};
+ghost use Rattle.facts.specs.Deeds.{start_deed, stop_deed, byte_deed, register_deed, read_deed, event_deed, deed_of};
 
 use bus::{Bus, Mode, Phase, next};
-use events::fault;
+use events::{Event, Kind};
 use sd2068::Clock;
 
 // A register's address stands beside what was done at it.
@@ -37,7 +38,7 @@ fn start_deed(phase: Phase) -> Deed
 {
     match phase {
         Phase::Closed => Deed::Opened,
-        Phase::Open(_, _) => Deed::Repeated,
+        Phase::Open(..) => Deed::Repeated,
     }
 }
 
@@ -47,65 +48,28 @@ fn stop_deed(phase: Phase, clears: bool) -> Deed
 {
     match phase {
         Phase::Closed => Deed::Idle,
-        Phase::Open(_, _) => { if clears { Deed::Cleared } else { Deed::Closed } }
+        Phase::Open(..) if clears => Deed::Cleared,
+        Phase::Open(..) => Deed::Closed,
     }
 }
 
-// An address byte. (rule 6.3)
-fn address_deed(b: u8) -> Deed
-    ensures { result ≡ address_deed b }
-{
-    match b {
-        0x64 => Deed::ToWrite,
-        0x65 => Deed::ToRead,
-        _ => Deed::Elsewhere,
-    }
-}
-
-// A pointer byte. (rule 6.4)
-fn pointer_deed(b: u8) -> Deed
-    ensures { result ≡ pointer_deed b }
-{
-    match b {
-        0x00..=0x1F => Deed::Pointed(b),
-        _ => Deed::Beyond,
-    }
-}
-
-// A data byte. (rule 7.2)
-fn data_deed(c: Clock, b: u8) -> Deed
-    ensures { result ≡ data_deed c b }
-{
-    let a = c.bus.pointer;
-    if c.stores(a, b) {
-        Deed::Stored(a)
-    } else {
-        Deed::Lost(a)
-    }
-}
-
-// A byte in an open transfer. (rules 6.3 to 6.6)
-fn heard_deed(mode: Mode, c: Clock, b: u8) -> Deed
-    ensures { result ≡ heard_deed mode c b }
-{
-    match mode {
-        Mode::Address => address_deed(b),
-        Mode::Pointer => pointer_deed(b),
-        Mode::Writing => data_deed(c, b),
-        Mode::Reading => Deed::Unheard,
-        Mode::Deaf => Deed::Unheard,
-    }
-}
-
-// A master's byte. (rule 6.6)
+// A master's byte: an address, a pointer, or data for the register at the pointer. (rules 6.3 to 6.6 and 7.2)
 fn byte_deed(c: Clock, b: u8) -> Deed
     ensures { result ≡ byte_deed c b }
 {
-    let bus = c.bus;
-    let phase = bus.phase;
-    match phase {
-        Phase::Closed => Deed::Unheard,
-        Phase::Open(mode, _) => heard_deed(mode, c, b),
+    let Phase::Open(mode, _) = c.bus.phase else {
+        return Deed::Unheard;
+    };
+    let a = c.bus.pointer;
+    match (mode, b) {
+        (Mode::Address, 0x64) => Deed::ToWrite,
+        (Mode::Address, 0x65) => Deed::ToRead,
+        (Mode::Address, _) => Deed::Elsewhere,
+        (Mode::Pointer, 0x00..=0x1F) => Deed::Pointed(b),
+        (Mode::Pointer, _) => Deed::Beyond,
+        (Mode::Writing, _) if c.stores(a, b) => Deed::Stored(a),
+        (Mode::Writing, _) => Deed::Lost(a),
+        (Mode::Reading | Mode::Deaf, _) => Deed::Unheard,
     }
 }
 
@@ -115,65 +79,43 @@ fn register_deed(a: u8) -> Deed
 {
     match a {
         0x00..=0x06 => Deed::Latched(a),
-        _ => match next(a) {
-            0x00 => Deed::Renewed(a),
-            _ => Deed::Sent(a),
-        },
+        _ if next(a) == 0x00 => Deed::Renewed(a),
+        _ => Deed::Sent(a),
     }
 }
 
-// A read in an open transfer. (rules 6.7 and 6.8)
-fn sent_deed(mode: Mode, pointer: u8) -> Deed
-    ensures { result ≡ sent_deed mode pointer }
-{
-    match mode {
-        Mode::Address => Deed::Silent,
-        Mode::Pointer => Deed::Silent,
-        Mode::Writing => Deed::Silent,
-        Mode::Reading => register_deed(pointer),
-        Mode::Deaf => Deed::Silent,
-    }
-}
-
-// A read, with ACK or NAK. (rule 6.8)
+// A read, with ACK or NAK: only a transfer that reads sends a byte. (rules 6.7 and 6.8)
 fn read_deed(bus: Bus) -> Deed
     ensures { result ≡ read_deed bus }
 {
-    let phase = bus.phase;
-    match phase {
-        Phase::Closed => Deed::Silent,
-        Phase::Open(mode, _) => sent_deed(mode, bus.pointer),
+    match bus.phase {
+        Phase::Open(Mode::Reading, _) => register_deed(bus.pointer),
+        _ => Deed::Silent,
     }
 }
 
-// An event of any kind up to 6. (rule 8.1)
-fn event_deed(c: Clock, kind: u8, b: u8) -> Deed
-    ensures { result ≡ event_deed c kind b }
+// An event that is not refused. (rule 8.1)
+#[tactic(auto, unfolding(crate::specs::Deeds::event_deed))]
+fn event_deed(c: Clock, kind: Kind) -> Deed
+    ensures { let e = event_of kind in result ≡ event_deed c e.kind e.byte }
 {
-    let bus = c.bus;
-    let phase = bus.phase;
     match kind {
-        0 => start_deed(phase),
-        1 => stop_deed(phase, c.clears()),
-        2 => byte_deed(c, b),
-        3 => read_deed(bus),
-        4 => read_deed(bus),
-        5 => Deed::Passed,
-        _ => Deed::PowerLost,
+        Kind::Start => start_deed(c.bus.phase),
+        Kind::Stop => stop_deed(c.bus.phase, c.clears()),
+        Kind::Byte(b) => byte_deed(c, b),
+        Kind::ReadAck | Kind::ReadNak => read_deed(c.bus),
+        Kind::Pulses(_) => Deed::Passed,
+        Kind::PowerLoss => Deed::PowerLost,
     }
 }
 
 // Any event on any state. (rules 8.3 and 11.1)
-pub fn deed_of(c: Clock, kind: u8, byte: u8, count: u16) -> Deed
-    ensures { result ≡ deed_of c kind byte count }
+#[tactic(auto, unfolding(crate::specs::Deeds::deed_of, sd2068::specs::Step::refusal_of))]
+pub fn deed_of(c: Clock, event: Event) -> Deed
+    ensures { result ≡ deed_of c event.kind event.byte event.count }
 {
-    if !c.well_formed() {
-        return Deed::Refused;
-    }
-    let refusal = fault(kind, byte, count);
-    if refusal.number() == 0 {
-        event_deed(c, kind, byte)
-    } else {
-        Deed::Refused
+    match Kind::try_from(event) {
+        Ok(kind) if c.well_formed() => event_deed(c, kind),
+        _ => Deed::Refused,
     }
 }

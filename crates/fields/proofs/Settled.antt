@@ -1,14 +1,18 @@
 -- Every public contract of this crate settles its result. Assumes nothing.
 use mathlib.Core.Path.{refl}
+use denote.RattleType.{RattleType}
+use mir.Syntax.{Dict}
+use Rattle.std.specs.declared.clone.Clone
+use denote.Param.Laws.{Laws, IsCopy}
 use Rattle.fields.proofs.Settles.{Settles, settled}
 use Rattle.fields.proofs.digits.value.Kinds as value_kinds
 use Rattle.fields.proofs.digits.value.Reads as value_reads
 use Rattle.fields.proofs.digits.byte.Kinds as byte_kinds
 use Rattle.fields.proofs.digits.byte.Reads as byte_reads
-use Rattle.fields.proofs.digits.legal.Kinds as legal_kinds
-use Rattle.fields.proofs.digits.legal.Reads as legal_reads
-use Rattle.fields.proofs.digits.step.Kinds as step_kinds
-use Rattle.fields.proofs.digits.step.Reads as step_reads
+use Rattle.fields.proofs.digits.Field.legal.Kinds as legal_kinds
+use Rattle.fields.proofs.digits.Field.legal.Reads as legal_reads
+use Rattle.fields.proofs.digits.Field.step.Kinds as step_kinds
+use Rattle.fields.proofs.digits.Field.step.Reads as step_reads
 use Rattle.fields.proofs.digits.pick.Kinds as pick_kinds
 use Rattle.fields.proofs.digits.pick.Reads as pick_reads
 use Rattle.fields.proofs.hours.mode.Kinds as mode_kinds
@@ -36,8 +40,9 @@ legal_settles κs a e f x y = settled (λ z. z) (λ z. z) (λ z. refl)
 pub step_settles : Settles 0 step_kinds.ps step_kinds.r step_reads.Post
 step_settles κs a e f x y = settled (λ z. z) (λ z. z) (λ z. refl)
 
-pub pick_settles : Settles 0 pick_kinds.ps pick_kinds.r pick_reads.Post
-pick_settles κs a e f x y = settled (λ z. z) (λ z. z) (λ z. refl)
+-- whatever the type of what is picked
+pub pick_settles : (t : RattleType) (l : Laws t) (c : IsCopy t) (g : Clone.Ghosts t.Denot) (d : Dict) → Settles 1 (pick_kinds.ps t l c) (pick_kinds.r t l c) (pick_reads.Post t l c g d)
+pick_settles t l c g d κs a e f x y = settled (λ z. z) (λ z. z) (λ z. refl)
 
 pub mode_settles : Settles 0 mode_kinds.ps mode_kinds.r mode_reads.Post
 mode_settles κs a e f x y = settled (λ z. z) (λ z. z) (λ z. refl)

@@ -13,10 +13,6 @@ byte_of n = n / 10 % 10 * 16 + n % 10
 abbrev pub legal_of : ℕ → ℕ → ℕ → Bool
 legal_of first last x = ltb (x % 16) 10 && ltb (x / 16) 10 && leb first x && leb x last
 
--- one of two numbers by a test
-abbrev pub pick_of : Bool → ℕ → ℕ → ℕ
-pick_of b x y = cond b x y
-
 -- the next value; after the last one, and from an illegal one, the first (rule 3.3)
 unfoldable pub step_of : ℕ → ℕ → ℕ → ℕ
 step_of first last x = cond (legal_of first last x && ltb x last) (byte_of (value_of x + 1)) first

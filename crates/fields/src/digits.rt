@@ -1,6 +1,6 @@
 // A field of two BCD digits. (rules 3.1 to 3.3)
-ghost use Rattle.std.specs.Prelude.{◌≡◌};
-ghost use Rattle.fields.specs.Digits.{legal_of, step_of, pick_of, value_of, byte_of};
+ghost use Rattle.std.specs.Prelude.{◌≡◌, cond};
+ghost use Rattle.fields.specs.Digits.{legal_of, step_of, value_of, byte_of};
 
 // The number that the digits say. (rule 3.1)
 pub fn value(x: u8) -> u8
@@ -16,27 +16,37 @@ pub fn byte(n: u8) -> u8
     n / 10 % 10 * 16 + n % 10
 }
 
-// Whether x holds a value of the field that runs from first to last. (rule 3.2)
-pub fn legal(x: u8, first: u8, last: u8) -> bool
-    ensures { result ≡ legal_of first last x }
-{
-    (x % 16 < 10) & (x / 16 < 10) & (first <= x) & (x <= last)
+// A field's values run from its first to its last. (rule 3.2)
+#[derive(Clone, Copy)]
+pub struct Field {
+    pub first: u8,
+    pub last: u8,
 }
 
-// The field one step on: after its last value, or from an illegal one, its first. (rule 3.3)
-pub fn step(x: u8, first: u8, last: u8) -> u8
-    ensures { result ≡ step_of first last x }
-{
-    pick(
-        legal(x, first, last) & (x < last),
-        byte(value(x) + 1),
-        first,
-    )
+impl Field {
+    // Whether x holds one of its values. (rule 3.2)
+    pub fn legal(self, x: u8) -> bool
+        ensures { result ≡ legal_of self.first self.last x }
+    {
+        (x % 16 < 10) & (x / 16 < 10) & (self.first <= x) & (x <= self.last)
+    }
+
+    // One step on from x: after its last value, or from an illegal one, its first. (rule 3.3)
+    #[tactic(auto, unfolding(crate::specs::Digits::step_of))]
+    pub fn step(self, x: u8) -> u8
+        ensures { result ≡ step_of self.first self.last x }
+    {
+        pick(
+            self.legal(x) & (x < self.last),
+            byte(value(x) + 1),
+            self.first,
+        )
+    }
 }
 
 // x where b holds, else y: a field that a carry may reach is one such choice.
-pub fn pick(b: bool, x: u8, y: u8) -> u8
-    ensures { result ≡ pick_of b x y }
+pub fn pick<T: Copy>(b: bool, x: T, y: T) -> T
+    ensures { result ≡ cond b x y }
 {
     if b { x } else { y }
 }

@@ -2,7 +2,18 @@
 ghost use Rattle.std.specs.Prelude.{◌≡◌};
 ghost use Rattle.fields.specs.Hours.{mode_of, first_hour, codes, place_of, hour_number_of, hour_byte_of, next_hour_of};
 
-use crate::digits::{byte, legal, pick, value};
+use crate::digits::{Field, byte, pick, value};
+
+// The hours' digits in each mode.
+const TWELVE: Field = Field {
+    first: 0x01,
+    last: 0x12,
+};
+
+const TWENTY_FOUR: Field = Field {
+    first: 0x00,
+    last: 0x23,
+};
 
 #[derive(Clone, Copy)]
 pub enum HourMode {
@@ -10,7 +21,7 @@ pub enum HourMode {
     TwentyFour,
 }
 
-// The mode that bit 7 of an hour tells. (rule 3.4)
+// The mode that bit 7 of an hour tells, which `HourMode::from` would not say of a whole byte. (rule 3.4)
 pub fn mode(h: u8) -> HourMode
     ensures { result ≡ mode_of h }
 {
@@ -31,7 +42,8 @@ pub(crate) fn first_hour(m: HourMode) -> u8
     }
 }
 
-// The hour of the day, 0 to 23, and 24 for a byte that is no hour. (rule 3.5)
+// The hour of the day, 0 to 23, and 24 for a byte that is no hour, as `hour_number_of` has it. (rule 3.5)
+#[tactic(auto, unfolding(crate::specs::Hours::hour_number_of))]
 pub(crate) fn hour_number(h: u8) -> u8
     ensures { result ≡ hour_number_of h }
 {
@@ -42,21 +54,23 @@ pub(crate) fn hour_number(h: u8) -> u8
 }
 
 // In 12-hour mode bit 5 is PM, and 12 is the first hour of its half of the day.
+#[tactic(auto, using(crate::proofs::HourCodes::number12_right))]
 fn number12(h: u8) -> u8
     ensures { result ≡ place_of h (codes HourMode.Twelve) }
 {
     pick(
-        legal(h % 32, 0x01, 0x12) & (h < 0x40),
+        TWELVE.legal(h % 32) & (h < 0x40),
         value(h % 32) % 12 + h / 32 * 12,
         24,
     )
 }
 
 // In 24-hour mode the six low bits say the hour; bit 6 is never set.
+#[tactic(auto, using(crate::proofs::HourCodes::number24_right))]
 fn number24(h: u8) -> u8
     ensures { result ≡ place_of h (codes HourMode.TwentyFour) }
 {
-    pick(legal(h % 128, 0x00, 0x23) & (0x80 <= h), value(h % 128), 24)
+    pick(TWENTY_FOUR.legal(h % 128) & (0x80 <= h), value(h % 128), 24)
 }
 
 // The code of an hour of the day, and the mode's first for a number past 23. (rule 3.5)
@@ -70,6 +84,7 @@ pub(crate) fn hour_byte(m: HourMode, n: u8) -> u8
 }
 
 // A clock's face says 12 where the half of the day begins.
+#[tactic(auto, using(crate::proofs::HourCodes::byte12_right))]
 fn byte12(n: u8) -> u8
     ensures { result ≡ hour_byte_of HourMode.Twelve n }
 {
@@ -77,6 +92,7 @@ fn byte12(n: u8) -> u8
 }
 
 // The remainder leaves every hour as it is and keeps the sum in a byte.
+#[tactic(auto, using(crate::proofs::HourCodes::byte24_right))]
 fn byte24(n: u8) -> u8
     ensures { result ≡ hour_byte_of HourMode.TwentyFour n }
 {
@@ -84,6 +100,7 @@ fn byte24(n: u8) -> u8
 }
 
 // The code after h; after the last one, and from an illegal one, the first of h's mode. (rule 3.5)
+#[tactic(auto, using(crate::proofs::HourCodes::hour_small), unfolding(crate::specs::Hours::next_hour_of))]
 pub(crate) fn next_hour(h: u8) -> u8
     ensures { result ≡ next_hour_of h }
 {

@@ -5,6 +5,6 @@ mod digits;
 mod hours;
 mod times;
 
-pub use digits::{byte, legal, pick, step, value};
+pub use digits::{Field, byte, pick, value};
 pub use hours::{HourMode, mode};
 pub use times::{TimeOfDay, time_of_day};

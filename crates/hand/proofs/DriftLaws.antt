@@ -1,10 +1,5 @@
 -- Pulses before the end of a second only count, so any number of them can be taken at once. Assumes nothing.
-use mathlib.Core.Path.{◌≡◌, refl, sym, ap, ◌∙◌}
-use mathlib.Core.Bool.{false}
-use Prim.Native.Nat.{ℕ, suc, ◌+◌, ◌-◌, ◌≤◌}
-use native.Mathlib.Omega.{arith}
-use lib.Dec.{eqb}
-use borrow.Author.Tests.{ne_eqb}
+use Rattle.std.proofs.Common.{◌≡◌, refl, sym, ap, ◌∙◌, false, ℕ, suc, ◌+◌, ◌-◌, ◌≤◌, arith, eqb, ne_eqb}
 use Rattle.registers.specs.Counters.{more_of}
 use Rattle.registers.proofs.CounterLaws.{Within, within_room, more_room, more_none}
 use Rattle.hand.specs.Trim.{length_of}

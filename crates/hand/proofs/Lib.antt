@@ -1,4 +1,3 @@
-pub mod TrimTests
 pub mod SecondLaws
 pub mod SpanLaws
 pub mod StoredLaws

@@ -1,5 +1,5 @@
 -- Every public contract of this crate settles its result. Assumes nothing.
-use mathlib.Core.Path.{refl}
+use Rattle.std.proofs.Common.{refl}
 use Rattle.fields.proofs.Settles.{Settles, settled}
 use Rattle.hand.proofs.hand.Hand.ticked.Kinds as ticked_kinds
 use Rattle.hand.proofs.hand.Hand.ticked.Reads as ticked_reads

@@ -1,14 +1,6 @@
 -- Pulses come to whole seconds: each pulse keeps what the seconds passed and the counter say of them. Assumes nothing.
-use mathlib.Core.Path.{◌≡◌, refl, sym, ◌∙◌, ap, ap₂, subst}
-use mathlib.Core.Bool.{Bool, true, false, ◌||◌}
-use mathlib.Core.Option.{some}
-use Prim.Native.Nat.{ℕ, zero, suc, ◌+◌, ◌-◌, ◌/◌, ◌%◌, ◌≤◌, ◌<◌}
+use Rattle.std.proofs.Common.{◌≡◌, refl, sym, ◌∙◌, ap, ap₂, subst, Bool, true, false, ◌||◌, Some, ℕ, zero, suc, ◌+◌, ◌-◌, ◌/◌, ◌%◌, ◌≤◌, ◌<◌, add-zero, add-suc, arith, eqb, leb, leb→le, pos, ◌+ℤ◌, nat_abs, eq-eqb, ne_eqb, leb-true, leb-false}
 use native.Mathlib.Decide.{dec_lt, ℕ_discrete}
-use native.Mathlib.Nat.{add-zero, add-suc}
-use native.Mathlib.Omega.{arith}
-use lib.Dec.{eqb, leb, leb→le}
-use lib.IntN.{pos, ◌+ℤ◌, nat_abs}
-use borrow.Author.Tests.{eq-eqb, ne_eqb, leb-true, leb-false}
 use Rattle.fields.specs.Digits.{value_of}
 use Rattle.fields.specs.Hours.{mode_of}
 use Rattle.fields.specs.Times.{second_of}
@@ -109,7 +101,7 @@ module _ (t : Time) (k : ℕ) (l : Legal t k) (n : ℕ) where
       })
 
 -- the seconds of a time with number k
-seconds_number : (t : Time) (k : ℕ) → number_of t ≡ some k → value_of t.seconds ≡ k % 60
+seconds_number : (t : Time) (k : ℕ) → number_of t ≡ Some k → value_of t.seconds ≡ k % 60
 unfolding since_of second_of
 seconds_number t k e = let l = (number_moment t k e).clock.seconds in omega (arith, number_since t k e)
 

@@ -1,6 +1,5 @@
 -- Whole seconds in a number of pulses, and a time some seconds on, by arithmetic alone. (rules 3.14 to 3.16, 4.2 and 4.3)
-use Rattle.std.specs.Prelude.{◌≡◌, cond, ◌||◌, ℕ, zero, suc, ◌+◌, ◌-◌, ◌*◌, ◌/◌, ◌%◌, ◌≤◌, ◌<◌, ltb, eqb}
-use Rattle.std.proofs.Math.Option.{some}
+use Rattle.std.specs.Prelude.{◌≡◌, cond, ◌||◌, ℕ, zero, suc, ◌+◌, ◌-◌, ◌*◌, ◌/◌, ◌%◌, ◌≤◌, ◌<◌, ltb, eqb, Some}
 use Rattle.fields.specs.Digits.{value_of}
 use Rattle.fields.specs.Hours.{mode_of}
 use Rattle.calendar.specs.declared.time.Time.{Time}
@@ -30,12 +29,12 @@ pub record Most (trim s pulses n : ℕ) : Type 0 where
 
 -- a time with a legal weekday and the second number k
 pub record Legal (t : Time) (k : ℕ) : Type 0 where
-  pub number : number_of t ≡ some k
+  pub number : number_of t ≡ Some k
   pub weekday : t.weekday < 7
 
 -- u is n seconds after t, whose second number is k
 pub record SecondsOn (t : Time) (k n : ℕ) (u : Time) : Type 0 where
-  pub number : number_of u ≡ some ((k + n) % 3155760000)
+  pub number : number_of u ≡ Some ((k + n) % 3155760000)
   pub mode : mode_of u.hours ≡ mode_of t.hours
   pub weekday : u.weekday ≡ (t.weekday + ((k + n) / 86400 - k / 86400)) % 7
 

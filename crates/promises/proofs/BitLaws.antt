@@ -1,8 +1,5 @@
 -- The bits of 0Fh and 10h can be put one by one, by tests of all their values that antt computes. Assumes nothing.
-use mathlib.Core.Path.{◌≡◌, sym, ◌∙◌}
-use mathlib.Core.Bool.{Bool}
-use Prim.Native.Nat.{ℕ, ◌<◌}
-use lib.Dec.{eqb, eqb→eq, lit<}
+use Rattle.std.proofs.Common.{◌≡◌, sym, ◌∙◌, Bool, ℕ, ◌<◌, eqb, eqb→eq, lit<}
 use Rattle.fields.proofs.Below.{agree}
 use Rattle.fields.proofs.Bits.{each_bit}
 use Rattle.control.proofs.BitLaws.{ctr1, ctr2}

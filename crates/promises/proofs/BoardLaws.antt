@@ -1,11 +1,6 @@
 -- What a board's calls tell is what the chip's steps answer, so what holds of steps holds of the numbers told. Assumes nothing.
-use mathlib.Core.Path.{◌≡◌, refl, sym, ap, ◌∙◌}
-use mathlib.Core.Bool.{true}
-use mathlib.Core.List.{List, [], ◌∷◌, ◌++◌, map}
-use Prim.Native.Nat.{ℕ, zero, suc, ◌+◌, ◌%◌, ◌<◌}
-use native.Mathlib.Omega.{arith}
-use lib.ListN.{length, get_or, drop}
-use lib.Seq.{drop_at}
+use Rattle.std.proofs.Common.{◌≡◌, refl, sym, ap, ◌∙◌, true, List, [], ◌∷◌, ◌++◌, map, ℕ, zero, suc, ◌+◌, ◌%◌, ◌<◌, arith, length, get_or, drop}
+use Rattle.std.proofs.lemmas.Grind.{common_steps}
 use Rattle.fields.specs.Hours.{mode_of}
 use Rattle.calendar.specs.declared.time.Time.{Time}
 use Rattle.registers.specs.Seven as seven
@@ -25,7 +20,7 @@ use Rattle.script.proofs.RunLaws.{run_whole}
 use Rattle.state_bytes.specs.Decoded.{clock_of}
 use Rattle.state_bytes.specs.Encoded.{bytes_of}
 use Rattle.state_events.proofs.ArrayLaws.{decoded_arrays, power_on_arrays, steps_arrays}
-use Rattle.sd2068_abi.specs.Abi.{accepted_of, after_in, told_in, LentRun, run_of}
+use Rattle.sd2068_abi.specs.Abi.{accepted_of, after_in, LentRun, run_of}
 use Rattle.state_events.specs.Said.{text_in, Said, said_in, said_of}
 use Rattle.sd2068_abi.specs.Said.{said_by, reads_said}
 use Rattle.sd2068_abi.proofs.BoundaryLaws.{encoded_decoded, accepted_well, accepted_encoded, board_steps}
@@ -33,7 +28,7 @@ use Rattle.sd2068_abi.proofs.SaidLaws.{calls_tell, reads_said_lem}
 use Rattle.sd2068_abi.proofs.RunLaws.{board_run}
 use Rattle.promises.specs.Ledger.{id_of, digits_of, SameMinute}
 use Rattle.promises.specs.Board.{OnBoard, from_address, KeepsTimeOn, bytes_read, digits_told}
-use Rattle.promises.proofs.DigitLaws.{no_nil, time_small, reads_bytes}
+use Rattle.promises.proofs.DigitLaws.{time_small, reads_bytes}
 use Rattle.promises.proofs.LedgerLaws.{same_minute}
 
 -- what is said of numbers further on
@@ -55,8 +50,7 @@ said_length c (e ∷ es) = ap suc (said_length (step c e).state es)
 
 -- the first of some numbers, by what they say
 first_text : (l : List ℕ) (x : Said) (xs : List Said) → map said_in l ≡ x ∷ xs → text_in (get_or l 0 0) ≡ x.answer
-first_text [] x xs e = absurd (no_nil e)
-first_text (n ∷ l) x xs e = ap (λ (z : List Said). (get_or z 0 x).answer) e
+first_text l x xs e = grind (arith, common_steps)
 
 -- promise 3 for a board
 module _ (t : Time) (k : ℕ) (l : Legal t k) (b : OnBoard t) where
@@ -74,13 +68,7 @@ module _ (t : Time) (k : ℕ) (l : Legal t k) (b : OnBoard t) where
   -- what the numbers from 65h on say
   from_said : map said_in (from_address b) ≡ said_of (told_by asked (byte 0x65)) ∷ said_by (step asked (byte 0x65)).state (reading_of b.run)
   unfolding said_by
-  from_said =
-      let c = clock_of b.state in
-      let more = byte 0x65 ∷ reading_of b.run in
-      said_drop (length b.calls) (told_in b.state (b.calls ++ more))
-      ∙ ap (drop (length b.calls)) (calls_tell b.state b.each b.accepted b.bytes ∙ said_add c b.calls more)
-      ∙ drop_at (said_by c b.calls) (said_by (after step c b.calls) more) (length b.calls) (said_length c b.calls)
-      ∙ ap (λ (d : Clock). said_by d more) same_asked
+  from_said = grind (arith, common_steps, said_drop, calls_tell, said_add, said_length, same_asked)
 
   pub board_kept : KeepsTimeOn b k
   board_kept =

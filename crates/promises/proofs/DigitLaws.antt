@@ -1,11 +1,6 @@
 -- The bytes that a board's reads tell are those that their texts show, so an id is taken from them as from the texts. Assumes nothing.
-use mathlib.Core.Path.{◌≡◌, refl, sym, ap, ◌∙◌}
-use mathlib.Core.Bool.{Bool, true, false, cond, true≢false}
-use mathlib.Core.List.{List, [], ◌∷◌, map}
-use Prim.Native.Nat.{ℕ, ◌/◌, ◌%◌, ◌<◌}
-use native.Mathlib.Omega.{arith}
-use lib.Dec.{eqb, ltb, ltb→lt}
-use lib.ListN.{get_or, drop}
+use Rattle.std.proofs.Common.{◌≡◌, refl, sym, ap, ◌∙◌, Bool, true, false, cond, true≢false, List, [], ◌∷◌, map, ℕ, ◌/◌, ◌%◌, ◌<◌, arith, eqb, ltb, ltb→lt, get_or}
+use Rattle.std.proofs.lemmas.Grind.{common_steps}
 use Rattle.fields.proofs.Below.{each}
 use Rattle.calendar.specs.declared.time.Time.{Time}
 use Rattle.calendar.proofs.MomentLaws.{number_moment}
@@ -65,9 +60,7 @@ nothing (b ∷ bs) e = absurd (no_nil e)
 one_read :
     (n : ℕ) (bs : List ℕ) (rest : List (List ℕ)) (told : List ℕ) → AllBytes bs → text_in n ∷ rest ≡ texts bs
     → ((cs : List ℕ) → AllBytes cs → rest ≡ texts cs → told ≡ cs) → byte_in n ∷ told ≡ bs
-one_read n [] rest told small e go = absurd (no_nil (sym e))
-one_read n (b ∷ bs) rest told (AllBytes.more h small) e go =
-    λ i. text_byte n b h (ap (λ (l : List (List ℕ)). get_or l 0 []) e) i ∷ go bs small (ap (drop 1) e) i
+one_read n bs rest told small e go = grind (arith, common_steps, text_byte)
 
 by_read :
     (read : Bool) (n : ℕ) (bs : List ℕ) (rest : List (List ℕ)) (told : List ℕ) → AllBytes bs → cond read (text_in n ∷ rest) rest ≡ texts bs

@@ -1,10 +1,7 @@
 -- A register keeps of a byte the bits that are not fixed, by a test of all that antt computes; so a byte that it keeps whole has no fixed bit set. Assumes nothing.
-use mathlib.Core.Path.{◌≡◌, refl, sym, ap, ◌∙◌}
-use mathlib.Core.Bool.{Bool, true, false, ◌&&◌, not, beq}
-use mathlib.Core.Logic.{◌↔◌}
-use Prim.Native.Nat.{ℕ, ◌<◌}
-use lib.Dec.{T, ltb, ltb→lt}
-use borrow.Author.Tests.{eq-eqb, eqb-true}
+use Rattle.std.proofs.Common.{◌≡◌, sym, ap, ◌∙◌, Bool, true, false, ◌&&◌, not, ◌↔◌, ℕ, ◌<◌, T, ltb, ltb→lt, eq-eqb, eqb-true, arith}
+use mathlib.Core.Bool.{beq}
+use Rattle.std.proofs.lemmas.Grind.{common_steps}
 use Rattle.fields.proofs.Below.{all, each}
 use Rattle.fields.proofs.Bits.{same}
 use Rattle.registers.specs.Fixed.{kept_time, kept_alarm, kept_control, kept_of, clear_of}
@@ -31,13 +28,10 @@ kept_byte a b h l = ltb→lt _ _ (every (λ (a b : ℕ). ltb (kept_of a b) 256) 
 
 -- a bit that stays though it is fixed is 0, and one that is 0 where it is fixed stays
 lost : (x f : Bool) → (x && not f) ≡ x → f ≡ true → x ≡ false
-lost true f e p = sym e ∙ ap not p
-lost false f e p = refl
+lost x f e h = grind (arith, common_steps)
 
 stays : (x f : Bool) → (f ≡ true → x ≡ false) → (x && not f) ≡ x
-stays true true z = sym (z refl)
-stays true false z = refl
-stays false f z = refl
+stays x f e = grind (arith, common_steps)
 
 -- b is clear at register a exactly if each bit of b that is fixed there is 0
 module _ (a b : ℕ) (h : a < 32) (l : b < 256) where

@@ -1,13 +1,6 @@
 -- In one hour mode equal digits are the same minute, because a text tells its byte, and a legal hour is its byte without bit 7 and its mode; across modes they need not be. Assumes nothing.
-use mathlib.Core.Path.{◌≡◌, refl, sym, ap, ◌∙◌, subst}
-use mathlib.Core.Bool.{Bool, true, false, cond}
-use mathlib.Core.List.{List, [], ◌∷◌}
-use mathlib.Core.Option.{some}
-use Prim.Native.Nat.{ℕ, ◌/◌, ◌%◌, ◌<◌}
-use native.Mathlib.Omega.{arith}
-use lib.Dec.{ltb, ltb→lt}
-use lib.ListN.{get_or}
-use borrow.Author.Tests.{ltb-true, ltb-false}
+use Rattle.std.proofs.Common.{◌≡◌, refl, sym, ap, ◌∙◌, subst, Bool, cond, List, [], ◌∷◌, Some, ℕ, ◌/◌, ◌%◌, ◌<◌, arith, ltb, ltb→lt, get_or}
+use Rattle.std.proofs.lemmas.Grind.{common_steps}
 use Rattle.fields.specs.declared.hours.HourMode.{HourMode}
 use Rattle.fields.specs.declared.hours.HourMode.TheVariants.{Twelve, TwentyFour}
 use Rattle.fields.specs.Hours.{mode_of, codes, place_of, hour_number_of, hour_byte_of}
@@ -43,7 +36,7 @@ read_field : {first last x : ℕ} → Held first last x → byte_read (text_of (
 read_field {first} {last} {x} h = read_byte x (omega (arith, h.tens))
 
 -- what is read of a legal time has its digits
-pub read_digits : (t : Time) (k : ℕ) → number_of t ≡ some k → digits_read (shown_by t) ≡ digits_of t
+pub read_digits : (t : Time) (k : ℕ) → number_of t ≡ Some k → digits_read (shown_by t) ≡ digits_of t
 unfolding digits_read
 read_digits t k e =
     let legal = number_moment t k e in
@@ -52,10 +45,7 @@ read_digits t k e =
 
 -- bit 7 is the mode
 same_bit : (h g : ℕ) (a b : Bool) → ltb h 0x80 ≡ a → ltb g 0x80 ≡ b → cond a Twelve TwentyFour ≡ cond b Twelve TwentyFour → h < 256 → g < 256 → h % 128 ≡ g % 128 → h ≡ g
-same_bit h g true true p q m hb gb e = let x = ltb-true h 0x80 p in let y = ltb-true g 0x80 q in omega arith
-same_bit h g false false p q m hb gb e = let x = ltb-false h 0x80 p in let y = ltb-false g 0x80 q in omega arith
-same_bit h g true false p q m hb gb e = let z : ◌≡◌ {A = ℕ} 0 1 = cc in omega arith
-same_bit h g false true p q m hb gb e = let z : ◌≡◌ {A = ℕ} 0 1 = cc in omega arith
+same_bit h g a b p q m x y e = grind (arith, common_steps)
 
 same_hours : (h g : ℕ) → hour_number_of h < 24 → hour_number_of g < 24 → mode_of h ≡ mode_of g → h % 128 ≡ g % 128 → h ≡ g
 same_hours h g x y m e = same_bit h g (ltb h 0x80) (ltb g 0x80) refl refl m (hours_small h x) (hours_small g y) e
@@ -65,7 +55,7 @@ same_byte : {x y : ℕ} → x / 16 ≡ y / 16 → x % 16 ≡ y % 16 → x ≡ y
 same_byte p q = omega arith
 
 -- two legal times in one hour mode
-module _ (t u : Time) (k l : ℕ) (legal_t : number_of t ≡ some k) (legal_u : number_of u ≡ some l) (mode : mode_of t.hours ≡ mode_of u.hours) where
+module _ (t u : Time) (k l : ℕ) (legal_t : number_of t ≡ Some k) (legal_u : number_of u ≡ Some l) (mode : mode_of t.hours ≡ mode_of u.hours) where
   pub same_digits : digits_of t ≡ digits_of u → SameMinute t u
   unfolding id_of
   same_digits e =
@@ -105,10 +95,10 @@ one_id mode r s e = same_minute mode r s (sym (shown_digits r) ∙ e ∙ shown_d
 -- 09:15 and 21:15, in 24-hour mode and in 12-hour mode
 pub quarter_past :
     built 0x89 0x15 ∷ built 0xA1 0x15 ∷ built 0x09 0x15 ∷ built 0x29 0x15 ∷ []
-    ≡ record { second = some 219921300; hour = 9; id = 1 ∷ 2 ∷ 2 ∷ 0 ∷ 0 ∷ 9 ∷ 1 ∷ 5 ∷ [] }
-    ∷ record { second = some 219964500; hour = 21; id = 1 ∷ 2 ∷ 2 ∷ 0 ∷ 2 ∷ 1 ∷ 1 ∷ 5 ∷ [] }
-    ∷ record { second = some 219921300; hour = 9; id = 1 ∷ 2 ∷ 2 ∷ 0 ∷ 0 ∷ 9 ∷ 1 ∷ 5 ∷ [] }
-    ∷ record { second = some 219964500; hour = 21; id = 1 ∷ 2 ∷ 2 ∷ 0 ∷ 2 ∷ 9 ∷ 1 ∷ 5 ∷ [] }
+    ≡ record { second = Some 219921300; hour = 9; id = 1 ∷ 2 ∷ 2 ∷ 0 ∷ 0 ∷ 9 ∷ 1 ∷ 5 ∷ [] }
+    ∷ record { second = Some 219964500; hour = 21; id = 1 ∷ 2 ∷ 2 ∷ 0 ∷ 2 ∷ 1 ∷ 1 ∷ 5 ∷ [] }
+    ∷ record { second = Some 219921300; hour = 9; id = 1 ∷ 2 ∷ 2 ∷ 0 ∷ 0 ∷ 9 ∷ 1 ∷ 5 ∷ [] }
+    ∷ record { second = Some 219964500; hour = 21; id = 1 ∷ 2 ∷ 2 ∷ 0 ∷ 2 ∷ 9 ∷ 1 ∷ 5 ∷ [] }
     ∷ []
 unfolding number_of since_of legal_date_of legal_time_of day_of second_of first_day_of days_of last_day_of leap_of hour_number_of place_of codes id_of
 quarter_past = refl
@@ -116,8 +106,8 @@ quarter_past = refl
 -- 21:00 in 24-hour mode and PM 1 in 12-hour mode share the id
 pub collide :
     built 0xA1 0x00 ∷ built 0x21 0x00 ∷ []
-    ≡ record { second = some 219963600; hour = 21; id = 1 ∷ 2 ∷ 2 ∷ 0 ∷ 2 ∷ 1 ∷ 0 ∷ 0 ∷ [] }
-    ∷ record { second = some 219934800; hour = 13; id = 1 ∷ 2 ∷ 2 ∷ 0 ∷ 2 ∷ 1 ∷ 0 ∷ 0 ∷ [] }
+    ≡ record { second = Some 219963600; hour = 21; id = 1 ∷ 2 ∷ 2 ∷ 0 ∷ 2 ∷ 1 ∷ 0 ∷ 0 ∷ [] }
+    ∷ record { second = Some 219934800; hour = 13; id = 1 ∷ 2 ∷ 2 ∷ 0 ∷ 2 ∷ 1 ∷ 0 ∷ 0 ∷ [] }
     ∷ []
 unfolding number_of since_of legal_date_of legal_time_of day_of second_of first_day_of days_of last_day_of leap_of hour_number_of place_of codes id_of
 collide = refl

@@ -1,9 +1,7 @@
 -- A written byte gives the lock bits that its rules say, so it is stored by the registers exactly if by the state. Assumes nothing.
-use mathlib.Core.Path.{◌≡◌, refl, sym, ap, ◌∙◌}
-use mathlib.Core.Bool.{Bool, true, false, cond, ◌&&◌, not, and-false}
-use mathlib.Core.Logic.{◌↔◌}
-use Prim.Native.Nat.{ℕ}
-use lib.Dec.{eqb}
+use Rattle.std.proofs.Common.{arith, ◌≡◌, refl, sym, ap, ◌∙◌, Bool, true, false, cond, ◌&&◌, not, ◌↔◌, ℕ, eqb}
+use Rattle.std.proofs.lemmas.Grind.{common_steps}
+use mathlib.Core.Bool.{and-false}
 use Rattle.control.specs.Lock.{open_of, written_of, ctr1_of, ctr2_of}
 use Rattle.control.proofs.BitLaws.{ctr1}
 use Rattle.control.proofs.LockLaws.{open_shown}
@@ -42,9 +40,7 @@ module _ (c : Clock) (b : ℕ) where
 
   by_ctr1_lem : Locked 0x0F 0x0F
   unfolding register_of control_at_of ctr1_of written_of locked_at
-  by_ctr1_lem =
-      given c.lock.wrtc2 c.lock.wrtc3 c.alarm.flag c.countdown.flag c.rtcf c.lock.wrtc1 (bit 7 b) (bit 2 b)
-      ∙ ap (λ (one : Bool). cond one (put 7 (bit 7 b) (put 2 (bit 2 b) (register_of c 0x0F))) (register_of c 0x0F)) (sym (wrtc1 c))
+  by_ctr1_lem = grind (arith, common_steps, given, wrtc1)
 
   by_ctr1_other : (a : ℕ) → eqb a 0x0F ≡ false → Locked 0x0F a
   unfolding register_of control_at_of ctr2_of written_of locked_at
@@ -69,9 +65,7 @@ module _ (c : Clock) (b : ℕ) where
   by_other p e f a = simp (e, f, and-false)
 
   pub locked : (p a : ℕ) → Locked p a
-  locked =
-      aside_two (λ (p : ℕ). (a : ℕ) → Locked p a) 0x0F 0x10 (aside (Locked 0x0F) 0x0F by_ctr1_lem by_ctr1_other)
-      (aside_two (Locked 0x10) 0x0F 0x10 by_ctr2_low by_ctr2_lem by_ctr2_other) by_other
+  locked = grind (arith, common_steps, aside_two, aside, by_ctr1_lem, by_ctr1_other, by_ctr2_low, by_ctr2_lem, by_ctr2_other, by_other)
 
   pub locked_all : (p : ℕ) → register_of (locked_by p) ≡ locked_at (register_of c) p b
   locked_all p = λ i. λ (a : ℕ). locked p a i

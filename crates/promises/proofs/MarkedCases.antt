@@ -1,9 +1,5 @@
 -- Pulses that do not end the second only count, so a row over a whole second is computed at its last pulse; the other rows are computed as they stand. Assumes nothing.
-use mathlib.Core.Path.{◌≡◌, refl, ap, ◌∙◌}
-use mathlib.Core.Bool.{true}
-use mathlib.Core.List.{List, [], ◌∷◌}
-use Prim.Native.Nat.{ℕ, suc, ◌+◌, ◌-◌}
-use lib.Dec.{T, ltb, ltb→lt}
+use Rattle.std.proofs.Common.{◌≡◌, refl, ap, ◌∙◌, true, List, [], ◌∷◌, ℕ, suc, ◌+◌, ◌-◌, T, ltb, ltb→lt}
 use Rattle.fields.specs.Digits as digits
 use Rattle.fields.specs.Hours.{codes, place_of, hour_number_of, hour_byte_of, next_hour_of}
 use Rattle.fields.specs.Times.{next_time_of, midnight_of}

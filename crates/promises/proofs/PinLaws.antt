@@ -1,10 +1,6 @@
 -- The pin of a state is the one that its registers and inner numbers say. Assumes nothing.
-use mathlib.Core.Path.{◌≡◌, refl, ap}
-use mathlib.Core.Bool.{Bool, true, false, cond, ◌||◌, and_comm}
-use Prim.Native.Nat.{ℕ, ◌-◌, ◌/◌, ◌%◌, ◌<◌}
-use native.Mathlib.Omega.{arith}
-use lib.Dec.{T, eqb, eqb→eq, ltb}
-use lib.ListN.{get_or}
+use Rattle.std.proofs.Common.{◌≡◌, Bool, cond, ◌||◌, ℕ, ◌-◌, ◌/◌, ◌%◌, ◌<◌, arith, T, eqb, ltb, get_or}
+use Rattle.std.proofs.lemmas.Grind.{common_steps}
 use Rattle.fields.proofs.Below.{each}
 use Rattle.control.specs.Pin.{bell_of, period_of, low_half_of, output_of}
 use Rattle.sd2068.specs.declared.clock.Clock.{Clock}
@@ -16,17 +12,13 @@ use Rattle.promises.proofs.RegisterLaws.{intaf, intdf, im, intde, intae, intfe, 
 
 bell : (im flag enabled : Bool) (pulse : ℕ) → bell_of im flag enabled pulse ≡ ringing im flag enabled pulse
 unfolding bell_of
-bell true flag enabled pulse = simp (and_comm enabled (ltb 0 pulse))
-bell false flag enabled pulse = refl
+bell im flag enabled pulse = grind (arith, common_steps)
 
 -- 0, 1 and 15 have no period, every other FS has the listed one
 period_by :
     (zero one last : Bool) (p q : ℕ) → T (zero || one || last || eqb p q) → (f : ℕ → ℕ) (x y z : ℕ) →
     cond zero x (cond one y (cond last z (f p))) ≡ cond zero x (cond one y (cond last z (f q)))
-period_by true one last p q t f x y z = refl
-period_by false true last p q t f x y z = refl
-period_by false false true p q t f x y z = refl
-period_by false false false p q t f x y z = ap f (eqb→eq p q t)
+period_by zero one last p q e f x y z = grind (arith, common_steps)
 
 output : (fs : ℕ) (i : Inner) → fs < 16 → output_of fs i.divider i.counter ≡ frequency fs i
 unfolding output_of frequency low_half_of period_of

@@ -1,12 +1,6 @@
 -- Power leaves what its view says: at a loss of the time and the RAM there, at power-on of the start bytes. Assumes nothing.
-use mathlib.Core.Path.{◌≡◌, refl, ap, ◌∙◌}
-use mathlib.Core.Bool.{Bool, true, false, cond}
-use mathlib.Core.List.{List}
-use Prim.Native.Nat.{ℕ, ◌+◌, ◌-◌, ◌≤◌, ◌<◌}
-use native.Mathlib.Omega.{arith}
-use lib.Dec.{eqb, ltb}
-use lib.ListN.{length, get_or}
-use borrow.Author.Tests.{ltb-true, ne_eqb, lt-ltb, le-ltb}
+use Rattle.std.proofs.Common.{◌≡◌, refl, ap, ◌∙◌, Bool, true, false, cond, List, ℕ, ◌+◌, ◌-◌, ◌≤◌, ◌<◌, arith, eqb, ltb, length, get_or, ltb-true, ne_eqb, lt-ltb, le-ltb}
+use Rattle.std.proofs.lemmas.Grind.{common_steps}
 use Rattle.calendar.specs.declared.time.Time.{Time}
 use Rattle.registers.specs.Fixed.{clear_time_of}
 use Rattle.registers.specs.Seven.{byte_at_of}
@@ -52,29 +46,17 @@ module _ (time : Time) (ram : List ℕ) (r : ℕ → ℕ) (low : (a : ℕ) → a
 
   powered_view_lem : view_of (powered_of time ram) ≡ powered_view r
   unfolding powered_of powered_view
-  powered_view_lem =
-      λ i.
-      record {
-        register = λ (a : ℕ). powered_at_lem a i;
-        inner = (powered_view r).inner;
-        latch = (powered_view r).latch;
-        pointer = (powered_view r).pointer;
-        phase = (powered_view r).phase;
-      }
+  powered_view_lem = grind (arith, common_steps, powered_at_lem)
 
 pub lost_view : (c : Clock) → view_of (lost_of c) ≡ powered_view (register_of c)
 unfolding register_of
-lost_view c =
-    powered_view_lem c.hand.time c.ram (register_of c) (λ a h. simp (lt-ltb a 0x07 h))
-    (λ a h. simp (le-ltb a 0x07 (omega arith), le-ltb a 0x0E (omega arith), le-ltb a 0x14 h))
+lost_view c = grind (arith, common_steps, powered_view_lem)
 
 -- of three power-ons the one that is not refused
 accepted :
     (count clear : Bool) (x y z : Power) → x.refusal ≡ 0 → y.refusal ≡ 6 → z.refusal ≡ 5 →
     (cond count (cond clear x y) z).refusal ≡ 0 → (cond count (cond clear x y) z).state ≡ x.state
-accepted true true x y z p q r e = refl
-accepted true false x y z p q r e = absurd (omega arith)
-accepted false clear x y z p q r e = absurd (omega arith)
+accepted count clear x y z e h p q = grind (arith, common_steps)
 
 -- the start bytes
 module _ (s : List ℕ) where

@@ -1,11 +1,5 @@
 -- Everything that is promised of the clock, in one place: each promise is stated here, and its proof is the law that it cites. Assumes nothing.
-use mathlib.Core.Path.{◌≡◌, sym, ap, subst, ◌∙◌}
-use mathlib.Core.Logic.{◌⊎◌, ◌↔◌}
-use mathlib.Core.Bool.{Bool, true, false, cond, ◌&&◌, not}
-use mathlib.Core.List.{List, [], ◌∷◌, ◌++◌, map}
-use mathlib.Core.Option.{some}
-use Prim.Native.Nat.{ℕ, ◌+◌, ◌*◌, ◌%◌, ◌<◌}
-use lib.ListN.{length, get_or, drop}
+use Rattle.std.proofs.Common.{◌≡◌, sym, ap, subst, ◌∙◌, ◌⊎◌, ◌↔◌, Bool, true, false, cond, ◌&&◌, not, List, [], ◌∷◌, ◌++◌, map, Some, ℕ, ◌+◌, ◌*◌, ◌%◌, ◌<◌, length, get_or, drop}
 use Rattle.fields.specs.Digits.{value_of, legal_of}
 use Rattle.fields.specs.Hours.{mode_of, hour_number_of}
 use Rattle.fields.specs.Times.{midnight_of}
@@ -325,7 +319,7 @@ module _ (r : ℕ → ℕ) (i : Inner) where
   module _ (j : Judged r i) where
     -- a seconds-only alarm rings once in each minute
     pub once_a_minute :
-        r 0x0E ≡ 0x01 → legal_of 0x00 0x59 (r 0x07) ≡ true → (k : ℕ) → number_of (time_before r) ≡ some k → (Begins r i) ↔ ((k + 1) % 60 ≡ value_of (r 0x07))
+        r 0x0E ≡ 0x01 → legal_of 0x00 0x59 (r 0x07) ≡ true → (k : ℕ) → number_of (time_before r) ≡ Some k → (Begins r i) ↔ ((k + 1) % 60 ≡ value_of (r 0x07))
     once_a_minute = ring.minutely r i j
 
     -- a weekday-only alarm for Monday with Tuesday rings at the midnight into Monday, and at no other second
@@ -334,17 +328,17 @@ module _ (r : ℕ → ℕ) (i : Inner) where
     monday_with_tuesday = ring.mondays r i j
 
     -- the sheet's alarm by year, month, day and hour rings once in the whole century
-    pub once_a_century : Evening r → (k : ℕ) → number_of (time_before r) ≡ some k → (Begins r i) ↔ ((k + 1) % 3155760000 ≡ 271540800)
+    pub once_a_century : Evening r → (k : ℕ) → number_of (time_before r) ≡ Some k → (Begins r i) ↔ ((k + 1) % 3155760000 ≡ 271540800)
     once_a_century = ring.evening r i j
 
   -- its 20h is no hour of a 12-hour clock, and never rings there
-  pub twelve_hour_silent : bit 2 (r 0x0E) ≡ true → r 0x09 % 64 ≡ 0x20 → r 0x02 < 0x80 → (k : ℕ) → number_of (time_before r) ≡ some k → Begins r i → ⊥
+  pub twelve_hour_silent : bit 2 (r 0x0E) ≡ true → r 0x09 % 64 ≡ 0x20 → r 0x02 < 0x80 → (k : ℕ) → number_of (time_before r) ≡ Some k → Begins r i → ⊥
   twelve_hour_silent = ring.no_such_hour r i
 
 -- the second of that ring, in both hour modes
 pub evening_number :
     (twelve : Bool) (w : ℕ)
-    → number_of (record { seconds = 0x00; minutes = 0x00; hours = cond twelve 0x28 0xA0; weekday = w; day = 0x08; month = 0x08; year = 0x08 }) ≡ some 271540800
+    → number_of (record { seconds = 0x00; minutes = 0x00; hours = cond twelve 0x28 0xA0; weekday = w; day = 0x08; month = 0x08; year = 0x08 }) ≡ Some 271540800
 evening_number = ring.games_number
 
 -- a file that is not refused is run: all E events that its bytes list, from its start bytes, a line for each, and the output behind them stays
@@ -531,24 +525,24 @@ pub board_id :
 board_id = on_boards.board_id
 
 -- the answers of a reading of a legal time show its digits
-pub read_digits : (t : Time) (k : ℕ) → number_of t ≡ some k → digits_read (shown_by t) ≡ digits_of t
+pub read_digits : (t : Time) (k : ℕ) → number_of t ≡ Some k → digits_read (shown_by t) ≡ digits_of t
 read_digits = ledger.read_digits
 
 -- both ids of a quarter past nine, in 24-hour mode and in 12-hour mode
 pub quarter_past :
     built 0x89 0x15 ∷ built 0xA1 0x15 ∷ built 0x09 0x15 ∷ built 0x29 0x15 ∷ []
-    ≡ record { second = some 219921300; hour = 9; id = 1 ∷ 2 ∷ 2 ∷ 0 ∷ 0 ∷ 9 ∷ 1 ∷ 5 ∷ [] }
-    ∷ record { second = some 219964500; hour = 21; id = 1 ∷ 2 ∷ 2 ∷ 0 ∷ 2 ∷ 1 ∷ 1 ∷ 5 ∷ [] }
-    ∷ record { second = some 219921300; hour = 9; id = 1 ∷ 2 ∷ 2 ∷ 0 ∷ 0 ∷ 9 ∷ 1 ∷ 5 ∷ [] }
-    ∷ record { second = some 219964500; hour = 21; id = 1 ∷ 2 ∷ 2 ∷ 0 ∷ 2 ∷ 9 ∷ 1 ∷ 5 ∷ [] }
+    ≡ record { second = Some 219921300; hour = 9; id = 1 ∷ 2 ∷ 2 ∷ 0 ∷ 0 ∷ 9 ∷ 1 ∷ 5 ∷ [] }
+    ∷ record { second = Some 219964500; hour = 21; id = 1 ∷ 2 ∷ 2 ∷ 0 ∷ 2 ∷ 1 ∷ 1 ∷ 5 ∷ [] }
+    ∷ record { second = Some 219921300; hour = 9; id = 1 ∷ 2 ∷ 2 ∷ 0 ∷ 0 ∷ 9 ∷ 1 ∷ 5 ∷ [] }
+    ∷ record { second = Some 219964500; hour = 21; id = 1 ∷ 2 ∷ 2 ∷ 0 ∷ 2 ∷ 9 ∷ 1 ∷ 5 ∷ [] }
     ∷ []
 quarter_past = ledger.quarter_past
 
 -- across hour modes digits do collide: 21:00 in 24-hour mode and 1 PM in 12-hour mode
 pub collide :
     built 0xA1 0x00 ∷ built 0x21 0x00 ∷ []
-    ≡ record { second = some 219963600; hour = 21; id = 1 ∷ 2 ∷ 2 ∷ 0 ∷ 2 ∷ 1 ∷ 0 ∷ 0 ∷ [] }
-    ∷ record { second = some 219934800; hour = 13; id = 1 ∷ 2 ∷ 2 ∷ 0 ∷ 2 ∷ 1 ∷ 0 ∷ 0 ∷ [] }
+    ≡ record { second = Some 219963600; hour = 21; id = 1 ∷ 2 ∷ 2 ∷ 0 ∷ 2 ∷ 1 ∷ 0 ∷ 0 ∷ [] }
+    ∷ record { second = Some 219934800; hour = 13; id = 1 ∷ 2 ∷ 2 ∷ 0 ∷ 2 ∷ 1 ∷ 0 ∷ 0 ∷ [] }
     ∷ []
 collide = ledger.collide
 

@@ -1,16 +1,11 @@
 -- A pulse moves what its view says: each group by its own stage, and the alarm by the second that ended. Assumes nothing.
-use mathlib.Core.Path.{◌≡◌, refl, sym, ap, ◌∙◌}
-use mathlib.Core.Bool.{Bool, true, false, cond, ◌&&◌, ◌||◌, not}
-use Prim.Native.Nat.{ℕ, zero, suc, ◌+◌, ◌-◌, ◌/◌, ◌%◌, ◌≤◌, ◌<◌}
-use native.Mathlib.Omega.{arith}
-use lib.Dec.{eqb, ltb}
-use lib.ListN.{get_or}
-use borrow.Author.Tests.{ne_eqb, lt-ltb, le-ltb}
+use Rattle.std.proofs.Common.{◌≡◌, refl, sym, ap, ◌∙◌, Bool, true, false, cond, ◌&&◌, ◌||◌, not, ℕ, ◌+◌, ◌-◌, ◌/◌, ◌%◌, ◌≤◌, ◌<◌, arith, eqb, ltb, get_or, ne_eqb, lt-ltb, le-ltb}
+use Rattle.std.proofs.lemmas.Grind.{common_steps}
 use Rattle.fields.proofs.Below.{agree}
 use Rattle.calendar.specs.declared.time.Time.{Time}
 use Rattle.calendar.specs.Advance.{advance_of}
 use Rattle.calendar.specs.Repeat.{times}
-use Rattle.registers.specs.Counters.{reached_of, turned_of}
+use Rattle.registers.specs.Counters.{turned_of}
 use Rattle.registers.specs.Seven.{byte_at_of}
 use Rattle.hand.specs.Trim.{length_of}
 use Rattle.hand.specs.Hand.{ends_of, ticked_of}
@@ -44,24 +39,15 @@ limit_same = agree limit_of (λ (tds : ℕ). get_or tick_lengths tds 0) 4 tt
 
 -- the prescaler holds, turns or goes on
 prescaler_by : (on full : Bool) (n : ℕ) → cond on (cond full 0 (n + 1)) n ≡ cond (on && full) 0 (cond on (n + 1) n)
-prescaler_by true true n = refl
-prescaler_by true false n = refl
-prescaler_by false full n = refl
+prescaler_by on full n = grind (arith, common_steps)
 
 -- a bit that is not 0 is 1, so a field that is off is one that is not enabled
 field_by : (k : ℕ) → k < 2 → (same : Bool) → eqb k 0 || same ≡ agrees (eqb k 1) same
-field_by zero h same = refl
-field_by (suc zero) h same = refl
-field_by (suc (suc k)) h same = absurd (omega (arith, h))
+field_by k e same = grind (arith, common_steps)
 
 weekday_by :
     (k d : ℕ) → k < 2 → d < 2 → (known set : Bool) → eqb k 0 || not (eqb d 0) || cond known set false ≡ agrees (eqb k 1 && not (eqb d 1)) (known && set)
-weekday_by zero d h l known set = refl
-weekday_by (suc zero) zero h l true set = refl
-weekday_by (suc zero) zero h l false set = refl
-weekday_by (suc zero) (suc zero) h l known set = refl
-weekday_by (suc zero) (suc (suc d)) h l known set = absurd (omega (arith, l))
-weekday_by (suc (suc k)) d h l known set = absurd (omega (arith, h))
+weekday_by k d e h known set = grind (arith, common_steps)
 
 -- the alarm's fields match as they do by the register numbers
 pub matches_same : (r : ℕ → ℕ) (t : Time) → matches_of (seven_from 0x07 r) (r 0x0E) t ≡ matches_at r t
@@ -157,11 +143,7 @@ module _ (c : Clock) where
 
   flags_row : Pulsed 0x0F
   unfolding pulse_of pulsed_at register_of control_at_of ctr1_of alarm.rung_of countdown.counted_of
-  flags_row =
-      simp (intaf c, intdf c)
-      (flags_same
-      ∙ sym (put_flags c.lock.wrtc3 c.alarm.flag c.countdown.flag c.lock.wrtc2 c.rtcf
-      (rings (register_of c) (inner_of c) || c.alarm.flag) (fires (register_of c) (inner_of c) || c.countdown.flag)))
+  flags_row = grind (arith, common_steps, intaf, intdf, flags_same, put_flags)
 
   ctr2_row : Pulsed 0x10
   unfolding pulse_of pulsed_at register_of control_at_of
@@ -181,14 +163,7 @@ module _ (c : Clock) where
 
   rest_row : (a : ℕ) → 0x14 ≤ a → Pulsed a
   unfolding pulse_of pulsed_at register_of
-  rest_row a h =
-      simp (
-        le-ltb a 0x07 (omega arith),
-        le-ltb a 0x0E (omega arith),
-        le-ltb a 0x14 h,
-        ne_eqb a 0x0F (λ e. omega arith),
-        ne_eqb a 0x13 (λ e. omega arith),
-      )
+  rest_row a h = grind (arith, common_steps)
 
   pulse_at : (a : ℕ) → Pulsed a
   pulse_at = by_rows Pulsed time_row fields_row enable_row flags_row ctr2_row ctr3_row trim_row count_row rest_row
@@ -198,9 +173,7 @@ module _ (c : Clock) where
       cond c.control.intde (turned_of c.countdown.prescaler (limit_of (tds_of c.control.ctr3))) c.countdown.prescaler
       ≡ (pulsed_inner (register_of c) (inner_of c)).prescaler
   unfolding pulsed_inner
-  prescaler_same =
-      prescaler_by c.control.intde (reached_of c.countdown.prescaler (limit_of (tds_of c.control.ctr3))) c.countdown.prescaler
-      ∙ (λ i. cond (ticks_same i) 0 (cond (sym (intde c) i) (c.countdown.prescaler + 1) c.countdown.prescaler))
+  prescaler_same = grind (arith, common_steps, prescaler_by, intde, ctr3, ticks_same)
 
   pulse_inner : inner_of (pulse_of c) ≡ pulsed_inner (register_of c) (inner_of c)
   unfolding pulse_of pulsed_inner ticked_of alarm.rung_of countdown.counted_of
@@ -217,15 +190,7 @@ module _ (c : Clock) where
 
   pub pulse_view : view_of (pulse_of c) ≡ after_pulse (view_of c)
   unfolding pulse_of after_pulse
-  pulse_view =
-      λ i.
-      record {
-        register = λ (a : ℕ). pulse_at a i;
-        inner = pulse_inner i;
-        latch = c.latched;
-        pointer = (older_same c.bus.phase c.bus.pointer i).pointer;
-        phase = (older_same c.bus.phase c.bus.pointer i).phase;
-      }
+  pulse_view = grind (arith, common_steps, pulse_at, pulse_inner, older_same)
 
 -- so n pulses move the view n times
 pub pulses_view : (n : ℕ) (c : Clock) → view_of (pulses_of c n) ≡ times after_pulse n (view_of c)

@@ -1,18 +1,12 @@
 -- A law of registers is proved row by row, and the bits of 0Fh and 10h are the state's own. Assumes nothing.
-use mathlib.Core.Path.{◌≡◌, refl, sym, subst}
-use mathlib.Core.Bool.{Bool, true, false}
-use Prim.Native.Nat.{ℕ, ◌+◌, ◌-◌, ◌/◌, ◌%◌, ◌≤◌, ◌<◌}
-use native.Mathlib.Decide.{dec_lt}
-use native.Mathlib.Omega.{arith}
-use lib.Dec.{eqb, eqb→eq}
-use borrow.Author.Tests.{eqb-true}
+use Rattle.std.proofs.Common.{◌≡◌, refl, sym, subst, Bool, true, false, ℕ, ◌/◌, ◌%◌, ◌≤◌, ◌<◌, arith, eqb, eqb→eq, eqb-true}
+use Rattle.std.proofs.lemmas.Grind.{common_steps}
 use Rattle.control.specs.Lock.{ctr1_of, ctr2_of}
 use Rattle.control.proofs.BitLaws as bits
 use Rattle.control.proofs.BitLaws.{ctr2}
 use Rattle.sd2068.specs.declared.clock.Clock.{Clock}
 use Rattle.sd2068.specs.Controls.{ints_of}
 use Rattle.sd2068.specs.Reading.{control_at_of, register_of}
-use Rattle.sd2068.proofs.ListedLaws.{none, ◌also◌}
 use Rattle.promises.specs.Registers.{bit}
 use Rattle.fields.proofs.Bits.{each_bit}
 
@@ -30,27 +24,13 @@ aside_two P j k p q f a = aside_by P j a (eqb a j) refl p (λ e. aside_by P k a 
 
 -- what holds of each of the six controls holds from 0Eh to 13h
 controls : (P : ℕ → Type 0) → P 0x0E → P 0x0F → P 0x10 → P 0x11 → P 0x12 → P 0x13 → (a : ℕ) → 0x0E ≤ a → a < 0x14 → P a
-controls P one two three four five six a l h =
-    let shifted : a - 0x0E + 0x0E ≡ a = omega arith in
-    subst P shifted ((none (λ (i : ℕ). P (i + 0x0E)) also one also two also three also four also five also six).each (a - 0x0E) (omega arith))
+controls P one two three four five six a l h = grind (arith, common_steps)
 
 -- what holds of the time, of the alarm's fields, of each control, and of the RAM and past it, holds of every register
 pub by_rows :
     (P : ℕ → Type 0) → ((a : ℕ) → a < 0x07 → P a) → ((a : ℕ) → 0x07 ≤ a → a < 0x0E → P a) →
     P 0x0E → P 0x0F → P 0x10 → P 0x11 → P 0x12 → P 0x13 → ((a : ℕ) → 0x14 ≤ a → P a) → (a : ℕ) → P a
-by_rows P time fields one two three four five six rest a =
-    elim (dec_lt a 0x07) [
-      | yes l ↦ time a l
-      | no l ↦
-          elim (dec_lt a 0x0E) [
-            | yes m ↦ fields a (omega arith) m
-            | no m ↦
-                elim (dec_lt a 0x14) [
-                  | yes n ↦ controls P one two three four five six a (omega arith) n
-                  | no n ↦ rest a (omega arith)
-                ]
-          ]
-    ]
+by_rows P time fields one two three four five six rest a = grind (arith, common_steps)
 
 module _ (c : Clock) where
   -- what holds of any bits of 0Fh, and of 10h, holds of the state's
@@ -62,9 +42,7 @@ module _ (c : Clock) where
   of_ctr2 :
       {P : Bool → Bool → Bool → Bool → Bool → Bool → Bool → Bool → Type 0} → ((a b c d e f g h : Bool) → P a b c d e f g h)
       → P c.lock.wrtc1 c.control.im c.control.ints1 c.control.ints0 c.control.fobat c.control.intde c.control.intae c.control.intfe
-  of_ctr2 law =
-      law c.lock.wrtc1 c.control.im c.control.ints1 c.control.ints0
-      c.control.fobat c.control.intde c.control.intae c.control.intfe
+  of_ctr2 law = grind (arith, common_steps)
 
   pub wrtc3 : bit 7 (register_of c 0x0F) ≡ c.lock.wrtc3
   unfolding register_of control_at_of ctr1_of

@@ -1,12 +1,8 @@
 -- When a match begins, by the registers: what the test of a pulse says, and which alarms begin when. Assumes nothing.
-use mathlib.Core.Path.{◌≡◌, refl, sym, ap, ap₂, subst, ◌∙◌}
-use mathlib.Core.Logic.{◌⊎◌, inl, inr, ◌↔◌}
-use mathlib.Core.Bool.{Bool, true, false, cond, ◌&&◌, not, beq, true≢false}
-use mathlib.Core.Option.{some}
-use Prim.Native.Nat.{ℕ, zero, suc, ◌+◌, ◌*◌, ◌/◌, ◌%◌, ◌<◌, ◌^◌}
-use native.Mathlib.Omega.{arith}
-use lib.Dec.{eqb, ltb}
-use borrow.Author.Tests.{not-true, eqb-true, eq-eqb, ne_eqb, lt-ltb}
+use Rattle.std.proofs.Common.{◌≡◌, refl, sym, ap, ap₂, subst, ◌∙◌, ◌⊎◌, inl, inr, ◌↔◌, Bool, true, false, cond, ◌&&◌, not, true≢false, Some, ℕ, ◌+◌, ◌*◌, ◌/◌, ◌%◌, ◌<◌, ◌^◌, arith, eqb, ltb, eqb-true, eq-eqb, ne_eqb, lt-ltb}
+use mathlib.Core.Bool.{beq}
+use borrow.Author.Tests.{not-true}
+use Rattle.std.proofs.lemmas.Grind.{common_steps}
 use Rattle.fields.specs.declared.hours.HourMode.TheVariants.{Twelve, TwentyFour}
 use Rattle.fields.specs.Digits.{value_of, legal_of}
 use Rattle.fields.specs.Hours.{codes, place_of, hour_number_of, hour_byte_of}
@@ -19,7 +15,7 @@ use Rattle.dates.specs.Months.{leap_of, last_day_of, days_of, first_day_of}
 use Rattle.dates.specs.Dates.{legal_date_of, day_of}
 use Rattle.dates.proofs.DateLaws.{LegalDate, legal_date}
 use Rattle.calendar.specs.declared.time.Time.{Time}
-use Rattle.calendar.specs.Advance.{clock_of, date_of, advance_of}
+use Rattle.calendar.specs.Advance.{clock_of, date_of}
 use Rattle.calendar.specs.Numbers.{since_of, number_of}
 use Rattle.calendar.proofs.MomentLaws.{number_moment, number_since}
 use Rattle.alarm.specs.declared.alarm.Alarm.{Alarm}
@@ -40,22 +36,7 @@ module _ (r : ℕ → ℕ) (i : Inner) where
   -- what the test of a pulse says, condition by condition
   pub rings_begins : rings r i ≡ true → Begins r i
   unfolding rings time_after
-  rings_begins e =
-      let x = ends r i in
-      let y = bit 1 (r 0x10) in
-      let z = not (eqb (r 0x0E) 0) in
-      let m = matches_at r (time_after r i) in
-      let b = not (matches_at r (time_before r)) in
-      let ended = and_left x y (and_left (x && y) (z && (m && b)) e) in
-      let rest = and_right (x && y) (z && (m && b)) e in
-      let both = and_right z (m && b) rest in
-      record {
-        ended = ended;
-        intae = and_right x y (and_left (x && y) (z && (m && b)) e);
-        enabled = λ p. true≢false (sym (and_left z (m && b) rest) ∙ ap not (eq-eqb (r 0x0E) 0 p));
-        after = ap (λ (e : Bool). matches_at r (cond e (time_next r) (time_before r))) (sym ended) ∙ and_left m b both;
-        before = not-true (matches_at r (time_before r)) (and_right m b both);
-      }
+  rings_begins e = grind (arith, common_steps)
 
   pub begins_rings : Begins r i → rings r i ≡ true
   unfolding rings time_after
@@ -91,9 +72,7 @@ unheld false f = refl
 -- bit n of 0Eh by its weight
 module _ (e n : ℕ) where
   not_one : (k : ℕ) → k < 2 → eqb k 1 ≡ false → eqb k 0 ≡ true
-  not_one zero h x = refl
-  not_one (suc zero) h x = absurd (true≢false x)
-  not_one (suc (suc k)) h x = absurd (omega (arith, h))
+  not_one k e h = grind (arith, common_steps)
 
   clear : bit n e ≡ false → off (2 ^ n) e ≡ true
   clear = not_one (e / 2 ^ n % 2) (omega arith)
@@ -121,7 +100,7 @@ games_hour false = refl
 -- that moment as a time, whatever its weekday
 pub games_number :
     (twelve : Bool) (w : ℕ)
-    → number_of (record { seconds = 0x00; minutes = 0x00; hours = cond twelve 0x28 0xA0; weekday = w; day = 0x08; month = 0x08; year = 0x08 }) ≡ some 271540800
+    → number_of (record { seconds = 0x00; minutes = 0x00; hours = cond twelve 0x28 0xA0; weekday = w; day = 0x08; month = 0x08; year = 0x08 }) ≡ Some 271540800
 unfolding number_of legal_date_of legal_time_of since_of day_of first_day_of days_of last_day_of leap_of second_of hour_number_of place_of codes
 games_number true w = refl
 games_number false w = refl
@@ -175,7 +154,7 @@ module _ (r : ℕ → ℕ) (i : Inner) where
 
   -- alarms by one field, and the sheet's by four
   module _ (j : Judged r i) where
-    pub minutely : r 0x0E ≡ 0x01 → legal_of 0x00 0x59 (r 0x07) ≡ true → (k : ℕ) → number_of (time_before r) ≡ some k → (Begins r i) ↔ ((k + 1) % 60 ≡ value_of (r 0x07))
+    pub minutely : r 0x0E ≡ 0x01 → legal_of 0x00 0x59 (r 0x07) ≡ true → (k : ℕ) → number_of (time_before r) ≡ Some k → (Begins r i) ↔ ((k + 1) % 60 ≡ value_of (r 0x07))
     minutely e legal k number =
         begins_at r i j ((k + 1) % 60) (value_of (r 0x07))
         (numbers.once_a_minute (alarm_at r) e (held 0x00 0x59 (r 0x07) legal) (time_before r) (number_moment (time_before r) k number)
@@ -192,7 +171,7 @@ module _ (r : ℕ → ℕ) (i : Inner) where
           λ (both : (x ≡ true) × ((time_next r).weekday ≡ 1)). alarm_begins r i j (law ∙ rw (both.0, eq-eqb (time_next r).weekday 1 both.1) refl),
         )
 
-    pub evening : Evening r → (k : ℕ) → number_of (time_before r) ≡ some k → (Begins r i) ↔ ((k + 1) % 3155760000 ≡ 271540800)
+    pub evening : Evening r → (k : ℕ) → number_of (time_before r) ≡ Some k → (Begins r i) ↔ ((k + 1) % 3155760000 ≡ 271540800)
     evening a k number =
         let date : date_of (alarm_at r).at ≡ games = λ x. record { day = a.day x; month = a.month x; year = a.year x } in
         let legal = subst LegalDate (sym date) (legal_date games games_legal) in
@@ -205,7 +184,7 @@ module _ (r : ℕ → ℕ) (i : Inner) where
 
   -- where the hours are 12-hour ones, an alarm's 20h is none of them
   pub no_such_hour :
-      bit 2 (r 0x0E) ≡ true → r 0x09 % 64 ≡ 0x20 → r 0x02 < 0x80 → (k : ℕ) → number_of (time_before r) ≡ some k → Begins r i → ⊥
+      bit 2 (r 0x0E) ≡ true → r 0x09 % 64 ≡ 0x20 → r 0x02 < 0x80 → (k : ℕ) → number_of (time_before r) ≡ Some k → Begins r i → ⊥
   no_such_hour on hour small k number b =
       let silent = numbers.hour_never (alarm_at r) (set (r 0x0E) 2 on) Twelve (rw hour twelve_codes) (time_before r) (number_moment (time_before r) k number) (rw (lt-ltb (r 0x02) 0x80 small) refl) in
       true≢false (sym (rung_by_lem b) ∙ silent)
@@ -217,17 +196,7 @@ module _ (r : ℕ → ℕ) (i : Inner) where
     at a (inr h) = same a (λ e. omega arith)
 
     seven_alike : (a : ℕ) → a + 6 < 0x0F → seven_from a r ≡ seven_from a q
-    seven_alike a h =
-        λ x.
-        record {
-          seconds = at a (inl (omega arith)) x;
-          minutes = at (a + 1) (inl (omega arith)) x;
-          hours = at (a + 2) (inl (omega arith)) x;
-          weekday = at (a + 3) (inl (omega arith)) x;
-          day = at (a + 4) (inl (omega arith)) x;
-          month = at (a + 5) (inl (omega arith)) x;
-          year = at (a + 6) (inl (omega arith)) x;
-        }
+    seven_alike a h = grind (arith, common_steps)
 
     matches_alike : (t : Time) → matches_at r t ≡ matches_at q t
     matches_alike t =
@@ -240,11 +209,4 @@ module _ (r : ℕ → ℕ) (i : Inner) where
     ends_alike = simp (at 0x00 (inl (omega arith)), at 0x12 (inr (omega arith)), counter)
 
     pub judged_alike : Begins r i → Begins q k
-    judged_alike b =
-        record {
-          ended = sym ends_alike ∙ b.ended;
-          intae = ap (bit 1) (sym (at 0x10 (inr (omega arith)))) ∙ b.intae;
-          enabled = λ e. b.enabled (at 0x0E (inl (omega arith)) ∙ e);
-          after = sym (matches_alike (time_next q)) ∙ ap (λ (t : Time). matches_at r (advance_of t)) (sym (seven_alike 0x00 (omega arith))) ∙ b.after;
-          before = sym (matches_alike (time_before q)) ∙ ap (matches_at r) (sym (seven_alike 0x00 (omega arith))) ∙ b.before;
-        }
+    judged_alike b = grind (arith, common_steps, ends_alike, at, matches_alike, seven_alike)

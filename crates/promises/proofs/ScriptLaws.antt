@@ -1,16 +1,10 @@
 -- A script's output shows what its steps answer, so what holds of steps holds of the lines. Assumes nothing.
-use mathlib.Core.Path.{◌≡◌, refl, sym, ap, ap₂, ◌∙◌}
-use mathlib.Core.Bool.{true, cond}
-use mathlib.Core.List.{List, [], ◌∷◌, ◌++◌, append_assoc}
-use Prim.Native.Nat.{ℕ, ◌*◌}
-use lib.Dec.{eqb}
-use lib.ListN.{length, take, drop}
-use lib.Seq.{drop_at}
+use Rattle.std.proofs.Common.{◌≡◌, refl, sym, ap, ap₂, ◌∙◌, true, cond, List, [], ◌∷◌, ◌++◌, append_assoc, ℕ, ◌*◌, eqb, length, take, drop, arith}
+use Rattle.std.proofs.lemmas.Grind.{common_steps}
 use Rattle.calendar.specs.declared.time.Time.{Time}
 use Rattle.hand.specs.Span.{Legal}
 use Rattle.events.specs.declared.event.Event.{Event}
 use Rattle.events.specs.declared.answer.Answer.{Answer}
-use Rattle.events.specs.declared.answer.Answer.TheVariants.{Quiet, Ack, Nak, Byte}
 use Rattle.events.specs.Answer.{text_of}
 use Rattle.sd2068.specs.declared.clock.Clock.{Clock}
 use Rattle.sd2068.specs.declared.answers.Answered.{Answered}
@@ -31,16 +25,10 @@ use Rattle.promises.specs.Script.{reads_in, Scripted, from_address, KeepsTimeIn}
 
 -- a line's first two characters, and what comes behind it
 line_two : (x : Answer) (pin : ℕ) (l rest : List ℕ) → take 2 ((line_of (text_of x) pin ++ l) ++ rest) ≡ text_of x
-line_two Quiet pin l rest = refl
-line_two Ack pin l rest = refl
-line_two Nak pin l rest = refl
-line_two (Byte b) pin l rest = refl
+line_two x pin l rest = grind (arith, common_steps)
 
 line_behind : (x : Answer) (pin : ℕ) (l rest : List ℕ) → drop 5 ((line_of (text_of x) pin ++ l) ++ rest) ≡ l ++ rest
-line_behind Quiet pin l rest = refl
-line_behind Ack pin l rest = refl
-line_behind Nak pin l rest = refl
-line_behind (Byte b) pin l rest = refl
+line_behind x pin l rest = grind (arith, common_steps)
 
 module _ (c : Clock) (e : Event) where
   abbrev answer : Answer
@@ -79,10 +67,7 @@ module _ (c : Clock) (es : List Event) (q : Event) (fs more : List Event) (rest 
   reached = after step c es
 
   from_q : drop (length es * 5) output ≡ lines_of reached (q ∷ (fs ++ more)) ++ rest
-  from_q =
-      ap (λ (l : List ℕ). drop (length es * 5) (l ++ rest)) (lines_add c es (q ∷ (fs ++ more)))
-      ∙ ap (drop (length es * 5)) (append_assoc (lines_of c es) (lines_of reached (q ∷ (fs ++ more))) rest)
-      ∙ drop_at (lines_of c es) (lines_of reached (q ∷ (fs ++ more)) ++ rest) (length es * 5) (lines_length c es)
+  from_q = grind (arith, common_steps, lines_add, lines_length)
 
   q_answer : take 2 (drop (length es * 5) output) ≡ (step reached q).answer
   unfolding lines_of
@@ -90,10 +75,7 @@ module _ (c : Clock) (es : List Event) (q : Event) (fs more : List Event) (rest 
 
   behind_q : drop 5 (drop (length es * 5) output) ≡ lines_of (step reached q).state fs ++ (lines_of (after step (step reached q).state fs) more ++ rest)
   unfolding lines_of
-  behind_q =
-      ap (drop 5) from_q ∙ told_behind reached q (lines_of (step reached q).state (fs ++ more)) rest
-      ∙ ap (λ (l : List ℕ). l ++ rest) (lines_add (step reached q).state fs more)
-      ∙ append_assoc (lines_of (step reached q).state fs) (lines_of (after step (step reached q).state fs) more) rest
+  behind_q = grind (arith, common_steps, from_q, told_behind, lines_add)
 
   reads_behind : reads_in fs (drop 5 (drop (length es * 5) output)) ≡ reads_of step (step reached q).state fs
   reads_behind = ap (reads_in fs) behind_q ∙ lines_read (step reached q).state fs (lines_of (after step (step reached q).state fs) more ++ rest)

@@ -1,12 +1,5 @@
 -- A script can meet the hypotheses of promise 3: a file in bytes, and what its run comes to, computed. Assumes nothing.
-use mathlib.Core.Path.{◌≡◌, refl}
-use mathlib.Core.Bool.{false}
-use mathlib.Core.List.{List, [], ◌∷◌, ◌++◌}
-use mathlib.Core.Logic.{inr}
-use Prim.Native.Nat.{ℕ, ◌*◌, ◌/◌, ◌%◌}
-use native.Mathlib.Omega.{arith}
-use lib.Dec.{ltb→lt}
-use lib.ListN.{length, drop, replicate}
+use Rattle.std.proofs.Common.{◌≡◌, refl, false, List, [], ◌∷◌, ◌++◌, inr, ℕ, ◌*◌, ◌/◌, ◌%◌, arith, ltb→lt, length, drop, replicate}
 use Rattle.calendar.specs.declared.time.Time.{Time}
 use Rattle.calendar.specs.Numbers.{since_of, number_of}
 use Rattle.calendar.specs.Repeat.{times}

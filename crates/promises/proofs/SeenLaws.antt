@@ -1,22 +1,14 @@
 -- Each kind of event shows what is said of it, from every state that may be handed in. Assumes nothing.
-use mathlib.Core.Path.{◌≡◌, refl, ap, ◌∙◌}
-use mathlib.Core.Bool.{Bool, true, false, cond}
-use mathlib.Core.List.{List}
-use Prim.Native.Nat.{ℕ, ◌<◌}
-use native.Mathlib.Omega.{arith}
-use lib.Dec.{eqb}
-use borrow.Author.Tests.{ne_eqb}
+use Rattle.std.proofs.Common.{◌≡◌, refl, Bool, true, false, cond, List, ℕ, ◌<◌, arith, ne_eqb}
+use Rattle.std.proofs.lemmas.Grind.{common_steps}
 use Rattle.events.specs.Refusal.{fault_of}
 use Rattle.sd2068.specs.declared.clock.Clock.{Clock}
 use Rattle.sd2068.specs.declared.answers.Answered.{Answered}
-use Rattle.sd2068.specs.Power.{lost_of, power_on_of}
-use Rattle.sd2068.specs.Pulse.{pulses_of}
-use Rattle.sd2068.specs.Transfer.{started_of, stopped_of}
+use Rattle.sd2068.specs.Power.{power_on_of}
 use Rattle.sd2068.specs.Step.{quiet_of, event_of, refusal_of, told_of, step_of}
 use Rattle.sd2068.proofs.WellLaws.{parts, step_taken}
 use Rattle.sd2068.proofs.ListedLaws.{well_listed}
 use Rattle.promises.specs.Registers.{View, view_of, Looks, State}
-use Rattle.promises.specs.Pin.{pin_by}
 use Rattle.promises.specs.Seen.{Seen, Shows, quiet_text, start_seen, stop_seen, byte_seen, read_seen, pulses_seen, loss_seen, powered_view, start_at, event_seen}
 use Rattle.promises.proofs.PinLaws.{pin_law}
 use Rattle.promises.proofs.TransferLaws.{start_view, stop_view, seen_of, read_seen_lem, byte_seen_lem}
@@ -25,24 +17,11 @@ use Rattle.promises.proofs.PulseLaws.{pulses_view}
 
 -- a state whose view is v looks so
 looks : (c : Clock) (v : View) → view_of c ≡ v → Looks c v
-looks c v p =
-    record {
-      registers = λ a. ap (λ (x : View). x.register a) p;
-      inner = ap (λ (x : View). x.inner) p;
-      latch = ap (λ (x : View). x.latch) p;
-      pointer = ap (λ (x : View). x.pointer) p;
-      phase = ap (λ (x : View). x.phase) p;
-    }
+looks c v p = grind (arith, common_steps)
 
 -- an event that is seen so shows it in its step
 shown : (e : Answered) (s : Seen) → seen_of e ≡ s → Shows (told_of 0 e) s
-shown e s p =
-    record {
-      refusal = refl;
-      answer = ap (λ (x : Seen). x.said) p;
-      state = looks e.clock s.left (ap (λ (x : Seen). x.left) p);
-      pin = pin_law e.clock ∙ ap (λ (x : Seen). pin_by x.left) p;
-    }
+shown e s p = grind (arith, common_steps, looks, pin_law)
 
 -- an event is seen so; of a choice between two, the one that is chosen
 record Sees (e : Answered) (s : Seen) : Type 0 where
@@ -59,15 +38,7 @@ silent c v p = record { same = λ i. record { said = quiet_text; left = p i } }
 module _ (c : Clock) (w : State c) where
   event_seen_lem : (kind byte count : ℕ) → byte < 256 → Sees (event_of c kind byte count) (event_seen (view_of c) kind byte count)
   unfolding event_of event_seen start_seen stop_seen
-  event_seen_lem kind byte count small =
-      let h : c.bus.pointer < 32 = omega (arith, (well_listed c w.well).pointer) in
-      chosen (eqb kind 0) (silent (started_of c) (start_seen (view_of c)).left (start_view c))
-      (chosen (eqb kind 1) (silent (stopped_of c) (stop_seen (view_of c)).left (stop_view c))
-      (chosen (eqb kind 2) (record { same = byte_seen_lem c h byte w.ram small })
-      (chosen (eqb kind 3) (record { same = read_seen_lem c h true })
-      (chosen (eqb kind 4) (record { same = read_seen_lem c h false })
-      (chosen (eqb kind 5) (silent (pulses_of c count) (pulses_seen (view_of c) count).left (pulses_view count c))
-      (silent (lost_of c) (loss_seen (view_of c)).left (lost_view c)))))))
+  event_seen_lem kind byte count small = grind (arith, common_steps, well_listed, chosen, silent, start_view, stop_view, byte_seen_lem, byte, read_seen_lem, pulses_view, lost_view)
 
   good : (kind byte count : ℕ) → (step_of c kind byte count).refusal ≡ 0 → fault_of kind byte count ≡ 0
   unfolding step_of refusal_of
@@ -75,9 +46,7 @@ module _ (c : Clock) (w : State c) where
 
   -- every event that is not refused
   pub every_event : (kind byte count : ℕ) → byte < 256 → (step_of c kind byte count).refusal ≡ 0 → Shows (step_of c kind byte count) (event_seen (view_of c) kind byte count)
-  every_event kind byte count small e =
-      rw (step_taken c (parts c w.well) kind byte count (good kind byte count e))
-      (shown (event_of c kind byte count) (event_seen (view_of c) kind byte count) (event_seen_lem kind byte count small).same)
+  every_event kind byte count small e = grind (arith, common_steps, step_taken, parts, byte, good, shown, event_seen_lem)
 
   -- an event that is not at fault is not refused
   taken : (kind byte count : ℕ) → fault_of kind byte count ≡ 0 → (step_of c kind byte count).refusal ≡ 0

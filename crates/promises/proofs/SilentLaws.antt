@@ -1,9 +1,7 @@
 -- What pulses make of INTAF and of the pin pulse: where a match begins they are set, and while it lasts nothing moves them. Assumes nothing.
-use mathlib.Core.Path.{◌≡◌, refl, sym, ap, subst, ◌∙◌}
-use mathlib.Core.Logic.{◌⊎◌, inl, inr, ◌↔◌}
-use mathlib.Core.Bool.{Bool, true, false, cond, ◌||◌, false≢true}
-use Prim.Native.Nat.{ℕ, zero, suc, ◌-◌, ◌≤◌, ◌<◌}
-use native.Mathlib.Omega.{arith}
+use Rattle.std.proofs.Common.{◌≡◌, refl, sym, ap, subst, ◌∙◌, ◌⊎◌, ◌↔◌, Bool, true, false, cond, ◌||◌, ℕ, zero, suc, ◌-◌, ◌≤◌, ◌<◌, arith}
+use mathlib.Core.Bool.{false≢true}
+use Rattle.std.proofs.lemmas.Grind.{common_steps}
 use Rattle.calendar.specs.Repeat.{times}
 use Rattle.alarm.specs.Alarm as alarm
 use Rattle.alarm.proofs.RingLaws as laws
@@ -23,12 +21,7 @@ use Rattle.promises.proofs.RingLaws.{alarm_at, rings_begins, begins_rings, lasts
 -- a flag that was set or is set now, by a test that says P
 module _ (P : Type 0) where
   flag_set : (x y : Bool) → (x ≡ true → P) → (P → x ≡ true) → (x || y ≡ true) ↔ ((y ≡ true) ⊎ P)
-  flag_set true y f g = (λ e. inr (f refl), λ s. refl)
-  flag_set false y f g = (λ e. inl e, before)
-    where
-      before : (y ≡ true) ⊎ P → y ≡ true
-      before (inl e) = e
-      before (inr p) = absurd (false≢true (g p))
+  flag_set x y e h = grind (arith, common_steps)
 
   whole_pulse : (x : Bool) (p : ℕ) → p ≤ 8192 → (x ≡ true → P) → (P → x ≡ true) → (cond x 8192 (p - 1) ≡ 8192) ↔ P
   whole_pulse true p h f g = (λ e. f refl, λ q. refl)
@@ -45,25 +38,14 @@ module _ (c : Clock) where
   pulse_after = ap (λ (b : Bool). cond b 8192 (c.alarm.pulse - 1)) (rings_same c)
 
   intaf_by : (bit 5 (register_of (pulse_of c) 0x0F) ≡ true) ↔ ((bit 5 (register_of c 0x0F) ≡ true) ⊎ Begins (register_of c) (inner_of c))
-  intaf_by =
-      let r = register_of c in
-      subst (λ (b : Bool). (b ≡ true) ↔ ((bit 5 (r 0x0F) ≡ true) ⊎ Begins r (inner_of c))) (sym intaf_after)
-      (flag_set (Begins r (inner_of c)) (rings r (inner_of c)) (bit 5 (r 0x0F)) (rings_begins r (inner_of c)) (begins_rings r (inner_of c)))
+  intaf_by = grind (arith, common_steps, intaf_after, flag_set, rings_begins, begins_rings)
 
   pulse_by : (inner_of c).alarm_pulse ≤ 8192 → ((inner_of (pulse_of c)).alarm_pulse ≡ 8192) ↔ Begins (register_of c) (inner_of c)
-  pulse_by h =
-      let r = register_of c in
-      subst (λ (n : ℕ). (n ≡ 8192) ↔ Begins r (inner_of c)) (sym pulse_after)
-      (whole_pulse (Begins r (inner_of c)) (rings r (inner_of c)) (inner_of c).alarm_pulse h (rings_begins r (inner_of c)) (begins_rings r (inner_of c)))
+  pulse_by h = grind (arith, common_steps, pulse_after, whole_pulse, rings_begins, begins_rings)
 
   -- inside a match it makes nothing of them
   one_silent : Matching c → Silent c (pulse_of c) 1
-  one_silent e =
-      let quiet = lasts_unrung (register_of c) (inner_of c) e in
-      record {
-        intaf = intaf_after ∙ ap (λ (b : Bool). b || bit 5 (register_of c 0x0F)) quiet;
-        pulse = pulse_after ∙ ap (λ (b : Bool). cond b 8192 ((inner_of c).alarm_pulse - 1)) quiet;
-      }
+  one_silent e = grind (arith, common_steps, lasts_unrung, intaf, intaf_after, pulse_after)
 
 -- so while the match lasts, pulse after pulse
 less_more : (p q s n : ℕ) → q ≡ p - n → s ≡ q - 1 → s ≡ p - suc n

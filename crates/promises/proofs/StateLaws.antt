@@ -1,23 +1,15 @@
 -- Power-on gives a state of 12 bytes of RAM and 7 latched ones that is well formed, and every step keeps it so. Assumes nothing.
-use mathlib.Core.Path.{◌≡◌, refl, ap, ◌∙◌}
-use mathlib.Core.Bool.{Bool, true, false}
-use mathlib.Core.List.{List}
-use Prim.Native.Nat.{ℕ, ◌-◌}
-use lib.Dec.{eqb, ltb}
-use lib.ListN.{length, set, length-set}
+use Rattle.std.proofs.Common.{◌≡◌, refl, ap, ◌∙◌, Bool, true, false, List, ℕ, eqb, length, set, length-set, arith, Option, Some}
+use Rattle.std.proofs.lemmas.Grind.{common_steps}
 use Rattle.fields.proofs.Picked.{picked}
-use Rattle.registers.specs.Fixed.{clear_time_of}
 use Rattle.bus.specs.declared.bytes.Effect.{Effect}
-use Rattle.bus.specs.declared.bytes.Effect.TheVariants.{None, Latch, Write}
-use Rattle.bus.specs.declared.reads.Sent.{Sent}
-use Rattle.bus.specs.declared.reads.Sent.TheVariants.{Nothing, Register}
 use Rattle.bus.specs.Phase.{next_of}
 use Rattle.bus.specs.Bytes.{heard_of}
 use Rattle.bus.specs.Reads as reads
 use Rattle.sd2068.specs.declared.clock.Clock.{Clock}
 use Rattle.sd2068.specs.declared.answers.Answered.{Answered}
-use Rattle.sd2068.specs.Power.{powered_of, start_time, Power, power_on_of}
-use Rattle.sd2068.specs.Writing.{ram_stored_of, stores_of, write_of}
+use Rattle.sd2068.specs.Power.{powered_of, power_on_of}
+use Rattle.sd2068.specs.Writing.{ram_stored_of, write_of}
 use Rattle.sd2068.specs.Transfer.{stopped_of, effected_by, byte_of, renewed_of, sent_by, read_of}
 use Rattle.sd2068.specs.Step.{event_of, refusal_of, step_of}
 use Rattle.sd2068.proofs.GroupLaws.{pulses_ram, pulses_latched}
@@ -35,25 +27,20 @@ module _ (c : Clock) (z : Sized c) where
 
   ram_sized : (a b : ℕ) → length (ram_stored_of c.ram a b) ≡ 12
   unfolding ram_stored_of
-  ram_sized a b =
-      picked (λ (l : List ℕ). length l ≡ 12) (ltb a 0x14) z.ram
-      (picked (λ (l : List ℕ). length l ≡ 12) (ltb a 0x20) (set_sized (a - 0x14) b) z.ram)
+  ram_sized a b = grind (arith, common_steps, picked, set_sized)
 
   effect_sized : (e : Effect) (b : ℕ) → Sized (effected_by e c b)
   unfolding write_of
-  effect_sized None b = z
-  effect_sized Latch b = record { ram = z.ram; latch = refl }
-  effect_sized (Write a) b =
-      record { ram = picked (λ (l : List ℕ). length l ≡ 12) (stores_of c a b) (ram_sized a b) z.ram; latch = z.latch }
+  effect_sized e b = grind (arith, common_steps, picked, ram_sized)
 
   byte_sized : (b : ℕ) → Sized (byte_of c b).clock
   unfolding byte_of
   byte_sized b = let s = effect_sized (heard_of c.bus b).effect b in record { ram = s.ram; latch = s.latch }
 
-  sent_sized : (s : Sent) (ack : Bool) → Sized (sent_by s c ack).clock
+  sent_sized : (s : Option ℕ) (ack : Bool) → Sized (sent_by s c ack).clock
   unfolding renewed_of
-  sent_sized Nothing ack = z
-  sent_sized (Register a) ack = record { ram = z.ram; latch = picked (λ (l : List ℕ). length l ≡ 7) (eqb (next_of a) 0x00) refl z.latch }
+  sent_sized Option.None ack = z
+  sent_sized (Some a) ack = record { ram = z.ram; latch = picked (λ (l : List ℕ). length l ≡ 7) (eqb (next_of a) 0x00) refl z.latch }
 
   read_sized : (ack : Bool) → Sized (read_of c ack).clock
   unfolding read_of
@@ -82,10 +69,7 @@ step_state c w kind byte count =
 
 power_sized : (s : List ℕ) → Sized (power_on_of s).state
 unfolding power_on_of powered_of
-power_sized s =
-    picked (λ (p : Power). Sized p.state) (eqb (length s) 19)
-    (picked (λ (p : Power). Sized p.state) (clear_time_of (start_time s)) (record { ram = refl; latch = refl }) (record { ram = refl; latch = refl }))
-    (record { ram = refl; latch = refl })
+power_sized s = grind (arith, common_steps)
 
 pub power_state : (s : List ℕ) → State (power_on_of s).state
 power_state s =

@@ -1,14 +1,8 @@
 -- A stored byte moves each register as its rules say, one row at a time. Assumes nothing.
-use mathlib.Core.Path.{◌≡◌, refl, sym, ap, ◌∙◌}
-use mathlib.Core.Bool.{Bool, true, false, cond, ◌&&◌}
-use mathlib.Core.List.{List}
-use Prim.Native.Nat.{ℕ, ◌-◌, ◌≤◌, ◌<◌}
+use Rattle.std.proofs.Common.{◌≡◌, refl, sym, Bool, true, false, cond, List, ℕ, ◌-◌, ◌≤◌, ◌<◌, arith, eqb, ltb, length, get_or, set, eqb-true, ltb-true, ltb-false, eq-eqb, ne_eqb, lt-ltb}
 use native.Mathlib.Decide.{dec_lt}
-use native.Mathlib.Omega.{arith}
-use lib.Dec.{eqb, ltb}
-use lib.ListN.{length, get_or, set}
-use lib.Seq.{get_or-set_same, get_or-set_other}
-use borrow.Author.Tests.{eqb-true, eqb-false, ltb-true, ltb-false, eq-eqb, ne_eqb, lt-ltb, le-ltb}
+use borrow.Author.Tests.{eqb-false}
+use Rattle.std.proofs.lemmas.Grind.{common_steps}
 use Rattle.calendar.specs.declared.time.Time.{Time}
 use Rattle.registers.specs.Fixed.{kept_control, kept_of}
 use Rattle.registers.specs.Seven.{byte_at_of, with_byte_of}
@@ -22,7 +16,6 @@ use Rattle.control.proofs.BitLaws.{ctr2}
 use Rattle.sd2068.specs.declared.clock.Clock.{Clock}
 use Rattle.sd2068.specs.Reading.{control_at_of, register_of}
 use Rattle.sd2068.specs.Writing.{ram_stored_of}
-use Rattle.sd2068.proofs.ListedLaws.{none, ◌also◌}
 use Rattle.promises.specs.Registers.{bit}
 use Rattle.promises.specs.Written.{stored_at}
 use Rattle.promises.proofs.BitLaws.{put_intaf, put_flags, summed_same}
@@ -31,9 +24,7 @@ use Rattle.promises.proofs.RegisterLaws.{by_rows, aside_two, intaf, intdf}
 -- seven bytes after one of them was replaced
 seven_put : (t : Time) (j k i : ℕ) → i < 7 → byte_at_of (with_byte_of t j k) i ≡ cond (eqb j i) k (byte_at_of t i)
 unfolding byte_at_of with_byte_of
-seven_put t j k =
-    (none (λ (i : ℕ). byte_at_of (with_byte_of t j k) i ≡ cond (eqb j i) k (byte_at_of t i))
-    also refl also refl also refl also refl also refl also refl also refl).each
+seven_put t j k = grind (arith, common_steps)
 
 -- the time, with a byte stored at p
 time_put :
@@ -50,32 +41,18 @@ fields_same p a l h false e = ne_eqb (p - 7) (a - 7) (λ x. eqb-false p a e (ome
 fields_put :
     (t : Time) (p k a : ℕ) → 0x07 ≤ a → a < 0x0E → (low mid : Bool) → ltb p 0x07 ≡ low → ltb p 0x0E ≡ mid →
     byte_at_of (cond low t (cond mid (with_byte_of t (p - 7) k) t)) (a - 7) ≡ cond (eqb p a) k (byte_at_of t (a - 7))
-fields_put t p k a l h true mid e m = simp (ne_eqb p a (λ x. omega (arith, ltb-true p 0x07 e)))
-fields_put t p k a l h false true e m =
-    seven_put t (p - 7) k (a - 7) (omega arith)
-    ∙ ap (λ (same : Bool). cond same k (byte_at_of t (a - 7))) (fields_same p a (ltb-false p 0x07 e) l (eqb p a) refl)
-fields_put t p k a l h false false e m = simp (ne_eqb p a (λ x. omega (arith, ltb-false p 0x0E m)))
+fields_put t p k a l h low mid e f = grind (arith, common_steps, seven_put, fields_same)
 
 -- from 13h on no register has a fixed bit
 kept_whole : (p b : ℕ) → 0x13 ≤ p → kept_of p b ≡ b
 unfolding kept_of kept_control
-kept_whole p b h =
-    simp (
-      le-ltb p 0x07 (omega arith),
-      le-ltb p 0x0F (omega arith),
-      ne_eqb p 0x0F (λ e. omega arith),
-      ne_eqb p 0x11 (λ e. omega arith),
-      ne_eqb p 0x12 (λ e. omega arith),
-    )
+kept_whole p b h = grind (arith, common_steps)
 
 -- the RAM, which begins at 14h
 module _ (ram : List ℕ) (full : length ram ≡ 12) (p b : ℕ) (s : p < 0x20) where
   ram_set : 0x14 ≤ p → (a : ℕ) → 0x14 ≤ a → (same : Bool) → eqb p a ≡ same →
       get_or (set ram (p - 0x14) b) (a - 0x14) 0 ≡ cond same (kept_of p b) (get_or ram (a - 0x14) 0)
-  ram_set h a l true e =
-      ap (λ (n : ℕ). get_or (set ram (p - 0x14) b) (n - 0x14) 0) (sym (eqb-true p a e))
-      ∙ get_or-set_same ram (p - 0x14) b 0 (omega arith) ∙ sym (kept_whole p b (omega arith))
-  ram_set h a l false e = get_or-set_other ram (p - 0x14) (a - 0x14) b 0 (λ x. eqb-false p a e (omega arith))
+  ram_set l a h same e = grind (arith, common_steps, kept_whole)
 
   ram_put : (a : ℕ) → 0x14 ≤ a → (low : Bool) → ltb p 0x14 ≡ low →
       get_or (ram_stored_of ram p b) (a - 0x14) 0 ≡ cond (eqb p a) (kept_of p b) (get_or ram (a - 0x14) 0)
@@ -111,9 +88,7 @@ module _ (c : Clock) (p b : ℕ) where
 
   alarm_row : (a : ℕ) → 0x07 ≤ a → a < 0x0E → Stored a
   unfolding register_of control_at_of alarm.stored_of stored_at
-  alarm_row a l h =
-      simp (le-ltb a 0x07 l, lt-ltb a 0x0E h, ne_eqb a 0x0F (λ e. omega arith))
-      (fields_put c.alarm.at p (kept_of p b) a l h (ltb p 0x07) (ltb p 0x0E) refl refl)
+  alarm_row a l h = grind (arith, common_steps, fields_put)
 
   enable_row : Stored 0x0E
   unfolding register_of control_at_of alarm.stored_of stored_at
@@ -125,21 +100,11 @@ module _ (c : Clock) (p b : ℕ) where
 
   past_row : (a : ℕ) → p < 0x20 → 0x20 ≤ a → Stored a
   unfolding register_of control_at_of stored_at
-  past_row a s h =
-      simp (
-        le-ltb a 0x07 (omega arith),
-        le-ltb a 0x0E (omega arith),
-        le-ltb a 0x14 (omega arith),
-        le-ltb a 0x20 h,
-        ne_eqb a 0x0F (λ e. omega arith),
-        ne_eqb p a (λ e. omega arith),
-      )
+  past_row a s h = grind (arith, common_steps)
 
   ram_row : length c.ram ≡ 12 → p < 0x20 → (a : ℕ) → 0x14 ≤ a → a < 0x20 → Stored a
   unfolding register_of control_at_of stored_at
-  ram_row full s a l h =
-      simp (le-ltb a 0x07 (omega arith), le-ltb a 0x0E (omega arith), le-ltb a 0x14 l, lt-ltb a 0x20 h, ne_eqb a 0x0F (λ e. omega arith))
-      (ram_put c.ram full p b s a l (ltb p 0x14) refl)
+  ram_row full s a l h = grind (arith, common_steps, ram_put)
 
   count_by : (here : Bool) → eqb p 0x13 ≡ here → cond here b c.countdown.count ≡ cond here (kept_of p b) c.countdown.count
   count_by true e = sym (kept_whole p b (omega (arith, eqb-true p 0x13 e)))
@@ -154,10 +119,7 @@ module _ (c : Clock) (p b : ℕ) where
   control_by ctr2 ctr3 = cond ctr2 (control.by_ctr2 c.control b) (cond ctr3 (control.by_ctr3 c.control (kept_of p b)) c.control)
 
   ctr3_by : (here there : Bool) → eqb p 0x11 ≡ here → eqb p 0x10 ≡ there → (control_by there here).ctr3 ≡ cond here (kept_of p b) c.control.ctr3
-  ctr3_by true true e f = absurd (omega (arith, eqb-true p 0x11 e, eqb-true p 0x10 f))
-  ctr3_by true false e f = refl
-  ctr3_by false true e f = refl
-  ctr3_by false false e f = refl
+  ctr3_by here there e h = grind (arith, common_steps)
 
   ctr3_row : Stored 0x11
   unfolding register_of control_at_of control.stored_of stored_at
@@ -166,12 +128,7 @@ module _ (c : Clock) (p b : ℕ) where
   module _ (h : b < 256) (w : p ≡ 0x10 → c.lock.wrtc1 ≡ bit 7 b) where
     ctr2_by : (here there : Bool) → eqb p 0x10 ≡ here → ctr2_of c.lock (control_by here there) ≡ cond here (kept_of p b) (ctr2_of c.lock c.control)
     unfolding ctr2_of kept_of kept_control
-    ctr2_by true there e =
-        let at : p ≡ 0x10 = eqb-true p 0x10 e in
-        ap (λ (one : Bool). ctr2 one (bit 6 b) (bit 5 b) (bit 4 b) (bit 3 b) (bit 2 b) (bit 1 b) (bit 0 b)) (w at)
-        ∙ summed_same b h ∙ ap (λ (n : ℕ). kept_of n b) (sym at)
-    ctr2_by false true e = refl
-    ctr2_by false false e = refl
+    ctr2_by here there e = grind (arith, common_steps, ctr2, summed_same)
 
     ctr2_row : Stored 0x10
     unfolding register_of control_at_of control.stored_of stored_at
@@ -180,9 +137,7 @@ module _ (c : Clock) (p b : ℕ) where
 module _ (c : Clock) (b : ℕ) where
   flags_row : Stored c 0x0F b 0x0F
   unfolding register_of control_at_of ctr1_of alarm.stored_of countdown.stored_of stored_at
-  flags_row =
-      simp (intaf c, intdf c)
-      (sym (put_flags c.lock.wrtc3 c.alarm.flag c.countdown.flag c.lock.wrtc2 c.rtcf (c.alarm.flag && bit 5 b) (c.countdown.flag && bit 4 b)))
+  flags_row = grind (arith, common_steps, intaf, intdf, put_flags)
 
   intaf_row : Stored c 0x0E b 0x0F
   unfolding register_of control_at_of ctr1_of alarm.stored_of countdown.stored_of stored_at
@@ -200,6 +155,4 @@ module _ (c : Clock) (p b : ℕ) (full : length c.ram ≡ 12) (s : p < 0x20) (h 
   rest_row a l = elim (dec_lt a 0x20) [ yes m ↦ ram_row c p b full s a l m | no m ↦ past_row c p b a s (omega arith) ]
 
   pub stored : (p ≡ 0x10 → c.lock.wrtc1 ≡ bit 7 b) → (a : ℕ) → Stored c p b a
-  stored w =
-      by_rows (Stored c p b) (time_row c p b) (alarm_row c p b)
-      (enable_row c p b) (ctr1_row c b p) (ctr2_row c p b h w) (ctr3_row c p b) (trim_row c p b) (count_row c p b) rest_row
+  stored w = grind (arith, common_steps, by_rows, time_row, alarm_row, enable_row, ctr1_row, ctr2_row, ctr3_row, trim_row, count_row, rest_row)

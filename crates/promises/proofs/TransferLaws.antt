@@ -1,24 +1,18 @@
 -- START, STOP, a master's byte and a read move what is said of them: one look at the phase, and the tests on byte and pointer. Assumes nothing.
-use mathlib.Core.Path.{◌≡◌, refl, sym, ap, ◌∙◌}
-use mathlib.Core.Bool.{Bool, true, false, cond, ◌&&◌, not, ◌||◌}
-use Prim.Native.Nat.{ℕ, ◌<◌}
-use native.Mathlib.Decide.{ℕ_discrete}
-use native.Mathlib.Omega.{arith}
-use lib.Dec.{eqb, ltb}
-use lib.ListN.{length}
-use borrow.Author.Tests.{eqb-true, eq-eqb, ne_eqb}
-use Rattle.registers.specs.Seven.{byte_at_of, bytes_of}
+use Rattle.std.proofs.Common.{◌≡◌, refl, sym, ap, ◌∙◌, Bool, true, false, cond, ◌&&◌, not, ℕ, ◌<◌, arith, eqb, ltb, length}
+use Rattle.std.proofs.lemmas.Grind.{common_steps}
+use Rattle.registers.specs.Seven.{byte_at_of}
 use Rattle.control.specs.Lock.{ctr1_of}
 use Rattle.control.proofs.BitLaws.{ctr1}
 use Rattle.bus.specs.declared.phase.Phase.{Phase}
 use Rattle.bus.specs.declared.phase.Phase.TheVariants.{Closed, Open}
-use Rattle.bus.specs.declared.phase.Mode.TheVariants.{Address, Pointer, Writing, Reading, Deaf}
+use Rattle.bus.specs.declared.phase.Mode.TheVariants.{Address, Pointer, Writing}
 use Rattle.bus.specs.declared.phase.Transfer.{Transfer}
 use Rattle.bus.specs.Phase.{next_of, started_in, marked_in}
 use Rattle.bus.specs.Bytes.{heard_of}
 use Rattle.bus.specs.Reads as reads
 use Rattle.bus.proofs.PointerLaws.{next_wraps}
-use Rattle.events.specs.declared.answer.Answer.TheVariants.{Ack, Byte}
+use Rattle.events.specs.declared.answer.Answer.TheVariants.{Ack}
 use Rattle.events.specs.Answer.{text_of}
 use Rattle.sd2068.specs.declared.clock.Clock.{Clock}
 use Rattle.sd2068.specs.declared.answers.Answered.{Answered}
@@ -26,7 +20,7 @@ use Rattle.sd2068.specs.Reading.{control_at_of, register_of, shown_of}
 use Rattle.sd2068.specs.Transfer.{started_of, clears_of, stopped_of, byte_of, renewed_of, read_of}
 use Rattle.sd2068.specs.Clock.{with_bus}
 use Rattle.sd2068.specs.Writing.{write_of}
-use Rattle.promises.specs.Registers.{put, view_of, inner_of}
+use Rattle.promises.specs.Registers.{put, view_of}
 use Rattle.promises.specs.Seen.{started_phase, start_seen, is_marked, stopped_at, stop_seen, Seen, byte_seen, read_seen}
 use Rattle.promises.proofs.BitLaws.{put_flags}
 use Rattle.promises.proofs.RegisterLaws.{aside}
@@ -42,15 +36,7 @@ is_marked_lem (Open m t) = refl
 
 pub start_view : (c : Clock) → view_of (started_of c) ≡ (start_seen (view_of c)).left
 unfolding start_seen register_of control_at_of
-start_view c =
-    λ i.
-    record {
-      register = register_of c;
-      inner = (view_of c).inner;
-      latch = c.latched;
-      pointer = c.bus.pointer;
-      phase = started_phase_lem c.bus.phase i;
-    }
+start_view c = grind (arith, common_steps, started_phase_lem)
 
 -- 0Fh without its flags, if they clear
 cleared : (clears a b c d e : Bool) → ctr1 a (not clears && b) (not clears && c) d e ≡ cond clears (put 5 false (put 4 false (ctr1 a b c d e))) (ctr1 a b c d e)
@@ -78,11 +64,7 @@ module _ (c : Clock) where
 
 -- the pointer comes to 00h after 1Fh alone
 first : (p : ℕ) → p < 32 → eqb (next_of p) 0x00 ≡ eqb p 0x1F
-first p h =
-    elim (ℕ_discrete p 0x1F) [
-      | yes e ↦ eq-eqb (next_of p) 0x00 (next_wraps p h ∙ omega arith) ∙ sym (eq-eqb p 0x1F e)
-      | no n ↦ ne_eqb (next_of p) 0x00 (λ x. n (omega (arith, sym (next_wraps p h) ∙ x))) ∙ sym (ne_eqb p 0x1F n)
-    ]
+first p h = grind (arith, common_steps)
 
 -- what an event of the state answers and leaves
 abbrev pub seen_of : Answered → Seen
@@ -95,24 +77,7 @@ module _ (c : Clock) (p : ℕ) (h : p < 32) where
 
   read_in_lem : (more : Bool) (f : Phase) → seen_of (read_of (at f) more) ≡ read_seen f (view_of (at f)) more
   unfolding read_of reads.read_of renewed_of read_seen register_of control_at_of byte_at_of shown_of
-  read_in_lem more Closed = refl
-  read_in_lem more (Open Address t) = refl
-  read_in_lem more (Open Pointer t) = refl
-  read_in_lem more (Open Writing t) = refl
-  read_in_lem more (Open Reading t) =
-      λ i.
-      record {
-        said = text_of (Byte (shown_of c p));
-        left =
-            record {
-              register = register_of c;
-              inner = inner_of c;
-              latch = cond (first p h i) (bytes_of c.hand.time) c.latched;
-              pointer = next_wraps p h i;
-              phase = Open (cond more Reading Deaf) (record { age = t.age; marked = eqb p 0x0F || t.marked });
-            };
-      }
-  read_in_lem more (Open Deaf t) = refl
+  read_in_lem more f = grind (arith, common_steps, first, next_wraps)
 
   module _ (b : ℕ) where
     abbrev Heard : Phase → Type 0
@@ -121,10 +86,7 @@ module _ (c : Clock) (p : ℕ) (h : p < 32) where
     module _ (t : Transfer) where
       address_in : (write read : Bool) → eqb b 0x64 ≡ write → eqb b 0x65 ≡ read → Heard (Open Address t)
       unfolding byte_of heard_of byte_seen register_of control_at_of byte_at_of
-      address_in true true e f = absurd (omega (arith, eqb-true b 0x64 e, eqb-true b 0x65 f))
-      address_in true false e f = simp (e, f)
-      address_in false true e f = simp (e, f)
-      address_in false false e f = simp (e, f)
+      address_in write read e h = grind (arith, common_steps)
 
       pointer_in : (low : Bool) → ltb b 0x20 ≡ low → Heard (Open Pointer t)
       unfolding byte_of heard_of byte_seen register_of control_at_of
@@ -149,12 +111,7 @@ module _ (c : Clock) (p : ℕ) (h : p < 32) where
 
     heard_in_lem : length c.ram ≡ 12 → b < 256 → (f : Phase) → Heard f
     unfolding byte_of heard_of byte_seen register_of control_at_of
-    heard_in_lem full s Closed = refl
-    heard_in_lem full s (Open Address t) = address_in t (eqb b 0x64) (eqb b 0x65) refl refl
-    heard_in_lem full s (Open Pointer t) = pointer_in t (ltb b 0x20) refl
-    heard_in_lem full s (Open Writing t) = data_in t full s
-    heard_in_lem full s (Open Reading t) = refl
-    heard_in_lem full s (Open Deaf t) = refl
+    heard_in_lem full small f = grind (arith, common_steps, address_in, pointer_in, data_in)
 
 module _ (c : Clock) (h : c.bus.pointer < 32) where
   pub read_seen_lem : (more : Bool) → seen_of (read_of c more) ≡ read_seen c.bus.phase (view_of c) more

@@ -1,9 +1,6 @@
 -- A view leaves nothing of a state out: the state can be had back from it, so what a step shows settles the step. Assumes nothing.
-use mathlib.Core.Path.{◌≡◌, refl, sym, ap, ◌∙◌}
-use mathlib.Core.List.{List, [], ◌∷◌}
-use Prim.Native.Nat.{ℕ, ◌<◌}
-use lib.ListN.{length, get_or}
-use lib.Seq.{ext_get_or}
+use Rattle.std.proofs.Common.{◌≡◌, refl, sym, ap, ◌∙◌, List, [], ◌∷◌, ℕ, ◌<◌, length, get_or, ext_get_or, arith}
+use Rattle.std.proofs.lemmas.Grind.{common_steps}
 use Rattle.registers.specs.Seven.{byte_at_of}
 use Rattle.sd2068.specs.declared.clock.Clock.{Clock}
 use Rattle.sd2068.specs.Reading.{control_at_of, register_of}
@@ -64,49 +61,11 @@ module _ (c : Clock) (full : length c.ram ≡ 12) where
 
   back : back_of (view_of c) ≡ c
   unfolding register_of control_at_of byte_at_of
-  back =
-      λ i.
-      record {
-        hand = c.hand;
-        alarm = record { at = c.alarm.at; enable = c.alarm.enable; flag = intaf c i; pulse = c.alarm.pulse };
-        countdown =
-            record {
-              count = c.countdown.count;
-              reload = c.countdown.reload;
-              prescaler = c.countdown.prescaler;
-              flag = intdf c i;
-              pulse = c.countdown.pulse;
-            };
-        lock = record { wrtc1 = wrtc1 c i; wrtc2 = wrtc2 c i; wrtc3 = wrtc3 c i };
-        control =
-            record {
-              im = im c i;
-              ints1 = ints1 c i;
-              ints0 = ints0 c i;
-              fobat = fobat c i;
-              intde = intde c i;
-              intae = intae c i;
-              intfe = intfe c i;
-              ctr3 = c.control.ctr3;
-            };
-        rtcf = rtcf c i;
-        ram = ram_back i;
-        latched = c.latched;
-        divider = c.divider;
-        bus = c.bus;
-      }
+  back = grind (arith, common_steps, intaf, intdf, wrtc1, wrtc2, wrtc3, im, ints1, ints0, fobat, intde, intae, intfe, rtcf, ram_back)
 
 -- a state that looks so has that view
 view : (c : Clock) (v : View) → Looks c v → view_of c ≡ v
-view c v l =
-    λ i.
-    record {
-      register = λ (a : ℕ). l.registers a i;
-      inner = l.inner i;
-      latch = l.latch i;
-      pointer = l.pointer i;
-      phase = l.phase i;
-    }
+view c v l = grind (arith, common_steps)
 
 -- so two states that look the same are the same
 pub one_state : (c d : Clock) (v : View) → State c → State d → Looks c v → Looks d v → c ≡ d

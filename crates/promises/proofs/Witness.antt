@@ -1,14 +1,6 @@
 -- The hypotheses of promise 3 can be met: a run from power-on that has everything in it, computed. Assumes nothing.
-use mathlib.Core.Path.{◌≡◌, refl, sym, ap, ◌∙◌}
-use mathlib.Core.Bool.{Bool, true, false, ◌&&◌, ◌||◌, not, true≢false}
-use mathlib.Core.List.{List, [], ◌∷◌, ◌++◌}
-use mathlib.Core.Logic.{◌⊎◌, inl, inr}
-use Prim.Native.Nat.{ℕ, ◌<◌}
-use native.Mathlib.Omega.{arith}
-use lib.Dec.{T, eqb, ltb, ltb→lt}
-use borrow.Author.Tests.{eq-eqb, lt-ltb, le-ltb}
+use Rattle.std.proofs.Common.{◌≡◌, refl, sym, ap, ◌∙◌, Bool, true, false, ◌&&◌, ◌||◌, not, true≢false, List, [], ◌∷◌, ◌++◌, ◌⊎◌, inl, inr, ℕ, ◌<◌, arith, T, eqb, ltb, ltb→lt, eq-eqb, lt-ltb, le-ltb, replicate}
 use Rattle.fields.proofs.Below.{both_left, both_right}
-use lib.ListN.{replicate}
 use Rattle.calendar.specs.declared.time.Time.{Time}
 use Rattle.calendar.specs.Advance.{advance_of}
 use Rattle.calendar.specs.Numbers.{since_of, number_of}

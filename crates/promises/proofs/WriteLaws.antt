@@ -1,11 +1,6 @@
 -- A data byte gives its lock bits and is then stored or not: so all registers and the numbers inside are as said. Assumes nothing.
-use mathlib.Core.Path.{◌≡◌, refl, ap, ◌∙◌}
-use mathlib.Core.Bool.{Bool, true, false, cond, ◌&&◌, ◌||◌}
-use Prim.Native.Nat.{ℕ, ◌<◌}
-use native.Mathlib.Omega.{arith}
-use lib.Dec.{eqb, ltb}
-use lib.ListN.{length}
-use borrow.Author.Tests.{ltb-false, ne_eqb}
+use Rattle.std.proofs.Common.{◌≡◌, ap, ◌∙◌, Bool, true, false, cond, ◌&&◌, ◌||◌, ℕ, ◌<◌, arith, eqb, ltb, length}
+use Rattle.std.proofs.lemmas.Grind.{common_steps}
 use Rattle.hand.specs.Hand as hand
 use Rattle.alarm.specs.Alarm as alarm
 use Rattle.countdown.specs.Countdown as countdown
@@ -20,14 +15,10 @@ use Rattle.promises.proofs.StoreLaws.{stored}
 
 -- the second counter and the prescaler after a stored byte
 counter_put : (p n : ℕ) (low : Bool) → ltb p 0x07 ≡ low → cond low (hand.restarted_of n p) n ≡ cond (eqb p 0x00) 0 n
-counter_put p n true e = refl
-counter_put p n false e = simp (ne_eqb p 0x00 (λ x. omega (arith, ltb-false p 0x07 e)))
+counter_put p n low e = grind (arith, common_steps)
 
 prescaler_put : (count source : Bool) (n : ℕ) → cond count 0 (cond source 0 n) ≡ cond (source || count) 0 n
-prescaler_put true true n = refl
-prescaler_put true false n = refl
-prescaler_put false true n = refl
-prescaler_put false false n = refl
+prescaler_put count source n = grind (arith, common_steps)
 
 module _ (c : Clock) (p b : ℕ) where
   -- what the numbers inside are, by whether the byte is stored
@@ -44,17 +35,7 @@ module _ (c : Clock) (p b : ℕ) where
 
   inner_by_lem : (stores : Bool) → inner_of (written_by stores c p b) ≡ inner_by stores
   unfolding hand.stored_of alarm.stored_of countdown.stored_of
-  inner_by_lem true =
-      λ i.
-      record {
-        counter = counter_put p c.hand.counter (ltb p 0x07) refl i;
-        reload = cond (eqb p 0x13) b c.countdown.reload;
-        prescaler = prescaler_put (eqb p 0x13) (eqb p 0x11) c.countdown.prescaler i;
-        alarm_pulse = c.alarm.pulse;
-        countdown_pulse = c.countdown.pulse;
-        divider = c.divider;
-      }
-  inner_by_lem false = refl
+  inner_by_lem stores = grind (arith, common_steps, counter_put, prescaler_put)
 
   pub write_inner : inner_of (write_of c p b) ≡ written_inner (register_of c) p b (inner_of c)
   unfolding write_of written_inner
@@ -74,6 +55,4 @@ module _ (c : Clock) (p b : ℕ) where
 
     pub write_at : (a : ℕ) → register_of (write_of c p b) a ≡ written_at (register_of c) p b a
     unfolding write_of written_at
-    write_at a =
-        write_by (stores_of c p b) a
-        ∙ ap (λ (stores : Bool). cond stores (stored_at (locked_at (register_of c) p b) p b a) (locked_at (register_of c) p b a)) (stores_law c p b)
+    write_at a = grind (arith, common_steps, write_by, stores_law)

@@ -1,6 +1,5 @@
 -- A build's id, as a board reads it at boot: month, day, hour and minute, two hexadecimal digits each. (rules 2.1, 3.1, 3.4, 3.5 and 8.1)
-use Rattle.std.specs.Prelude.{◌≡◌, cond, List, [], ◌∷◌, ℕ, ◌+◌, ◌-◌, ◌*◌, ◌/◌, ◌%◌, ◌<◌, ltb, get_or}
-use Rattle.std.proofs.Math.Option.{Option}
+use Rattle.std.specs.Prelude.{◌≡◌, cond, List, [], ◌∷◌, ℕ, ◌+◌, ◌-◌, ◌*◌, ◌/◌, ◌%◌, ◌<◌, ltb, get_or, Option}
 use Rattle.fields.specs.Hours.{hour_number_of}
 use Rattle.calendar.specs.declared.time.Time.{Time}
 use Rattle.calendar.specs.Numbers.{number_of}

@@ -1,8 +1,8 @@
 -- Every public contract of this crate settles its result. Assumes nothing.
-use mathlib.Core.Path.{refl}
+use Rattle.std.proofs.Common.{refl}
 use Rattle.fields.proofs.Settles.{Settles, settled}
-use Rattle.registers.proofs.counters.choose.Kinds as choose_kinds
-use Rattle.registers.proofs.counters.choose.Reads as choose_reads
+use Rattle.registers.proofs.bits.bit_at.Kinds as bit_at_kinds
+use Rattle.registers.proofs.bits.bit_at.Reads as bit_at_reads
 use Rattle.registers.proofs.counters.less.Kinds as less_kinds
 use Rattle.registers.proofs.counters.less.Reads as less_reads
 use Rattle.registers.proofs.counters.more.Kinds as more_kinds
@@ -21,13 +21,11 @@ use Rattle.registers.proofs.fixed.kept.Kinds as kept_kinds
 use Rattle.registers.proofs.fixed.kept.Reads as kept_reads
 use Rattle.registers.proofs.seven.byte_at.Kinds as byte_at_kinds
 use Rattle.registers.proofs.seven.byte_at.Reads as byte_at_reads
-use Rattle.registers.proofs.seven.bytes.Kinds as bytes_kinds
-use Rattle.registers.proofs.seven.bytes.Reads as bytes_reads
 use Rattle.registers.proofs.seven.with_byte.Kinds as with_byte_kinds
 use Rattle.registers.proofs.seven.with_byte.Reads as with_byte_reads
 
-pub choose_settles : Settles 0 choose_kinds.ps choose_kinds.r choose_reads.Post
-choose_settles κs a e f x y = settled (λ z. z) (λ z. z) (λ z. refl)
+pub bit_at_settles : Settles 0 bit_at_kinds.ps bit_at_kinds.r bit_at_reads.Post
+bit_at_settles κs a e f x y = settled (λ z. z) (λ z. z) (λ z. refl)
 
 pub less_settles : Settles 0 less_kinds.ps less_kinds.r less_reads.Post
 less_settles κs a e f x y = settled (λ z. z) (λ z. z) (λ z. refl)
@@ -55,9 +53,6 @@ kept_settles κs a e f x y = settled (λ z. z) (λ z. z) (λ z. refl)
 
 pub byte_at_settles : Settles 0 byte_at_kinds.ps byte_at_kinds.r byte_at_reads.Post
 byte_at_settles κs a e f x y = settled (λ z. z) (λ z. z) (λ z. refl)
-
-pub bytes_settles : Settles 0 bytes_kinds.ps bytes_kinds.r bytes_reads.Post
-bytes_settles κs a e f x y = settled (λ z. z) (λ z. z) (λ z. refl)
 
 pub with_byte_settles : Settles 0 with_byte_kinds.ps with_byte_kinds.r with_byte_reads.Post
 with_byte_settles κs a e f x y = settled (λ z. z) (λ z. z) (λ z. refl)

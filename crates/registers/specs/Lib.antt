@@ -1,3 +1,4 @@
+pub mod Bits
 pub mod Fixed
 pub mod Seven
 pub mod Counters

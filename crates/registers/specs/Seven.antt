@@ -1,5 +1,6 @@
 -- Seven bytes in the order of the time's registers. (rules 2.1 and 2.3)
-use Rattle.std.specs.Prelude.{cond, List, [], ◌∷◌, ℕ, eqb}
+use Rattle.std.specs.Prelude.{cond, ℕ, eqb}
+pub use Rattle.calendar.specs.Bytes.{bytes_of}
 use Rattle.calendar.specs.declared.time.Time.{Time}
 
 -- the byte at place i; past the last it is the last
@@ -25,7 +26,3 @@ with_byte_of t i b =
       month = cond (eqb i 5) b t.month;
       year = cond (eqb i 6) b t.year;
     }
-
--- all seven
-abbrev pub bytes_of : Time → List ℕ
-bytes_of t = t.seconds ∷ t.minutes ∷ t.hours ∷ t.weekday ∷ t.day ∷ t.month ∷ t.year ∷ []

@@ -1,10 +1,12 @@
 // What the registers are made of: fixed bits, the seven bytes of a time by place, counters.
 #![tactic(auto)]
 
+mod bits;
 mod counters;
 mod fixed;
 mod seven;
 
-pub use counters::{choose, less, more, reached, turned, within};
+pub use bits::bit_at;
+pub use counters::{less, more, reached, turned, within};
 pub use fixed::{clear, clear_time, kept};
-pub use seven::{byte_at, bytes, with_byte};
+pub use seven::{byte_at, with_byte};

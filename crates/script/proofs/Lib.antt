@@ -1,8 +1,8 @@
 pub mod SectionLaws
 pub mod StartLaws
+pub mod SearchLaws
 pub mod EventLaws
 pub mod RowLaws
-pub mod SearchLaws
 pub mod PartLaws
 pub mod LineLaws
 pub mod TurnLaws

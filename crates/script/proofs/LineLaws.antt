@@ -5,10 +5,10 @@ use mathlib.Core.List.{List, [], ◌∷◌, ◌++◌, append_assoc, append-nil}
 use Prim.Native.Nat.{ℕ, zero, suc, ◌+◌, ◌-◌, ◌*◌, ◌/◌, ◌≤◌, ◌<◌}
 use native.Mathlib.Omega.{arith}
 use native.Mathlib.Nat.{not-suc-le-zero}
-use native.Mathlib.Numerals.{add-one}
 use lib.Dec.{eqb}
-use lib.ListN.{length, get_or, set, take, drop, length-append, length-drop, take-append-drop}
-use lib.Seq.{sets-eq, length-take-le, take_at, drop_at, drop-drop}
+use lib.ListN.{length, take, drop, length-append, length-drop, take-append-drop}
+use lib.Seq.{length-take-le, take_at, drop_at, drop-drop}
+use borrow.Rule.Slice.PartMut.{put_mid, Post-is}
 use Rattle.events.specs.declared.answer.Answer.{Answer}
 use Rattle.events.specs.declared.answer.Answer.TheVariants.{Quiet, Ack, Nak, Byte}
 use Rattle.events.specs.declared.event.Event.{Event}
@@ -22,27 +22,16 @@ use Rattle.script.specs.Lines.{line_of, put_of, lines_of}
 use Rattle.script.specs.File.{EventsRun}
 use Rattle.script.proofs.SearchLaws.{events_length}
 
--- an answer has two characters, and a line five
-text_two : (x : Answer) → text_of x ≡ get_or (text_of x) 0 0 ∷ get_or (text_of x) 1 0 ∷ []
-text_two Quiet = refl
-text_two Ack = refl
-text_two Nak = refl
-text_two (Byte b) = refl
-
+-- a line has five characters
 line_five : (x : Answer) (pin : ℕ) → length (line_of (text_of x) pin) ≡ 5
 line_five Quiet pin = refl
 line_five Ack pin = refl
 line_five Nak pin = refl
 line_five (Byte b) pin = refl
 
--- five stores in a row
-five : (out : List ℕ) (at a b d e f : ℕ) → at + 5 ≤ length out → set (set (set (set (set out at a) (at + 1) b) (at + 1 + 1) d) (at + 1 + 1 + 1) e) (at + 1 + 1 + 1 + 1) f ≡ take at out ++ ((a ∷ b ∷ d ∷ e ∷ f ∷ []) ++ drop (at + 5) out)
-five out at a b d e f h = simp add-one (sets-eq (a ∷ b ∷ d ∷ e ∷ f ∷ []) out at h ∙ append_assoc (take at out) (a ∷ b ∷ d ∷ e ∷ f ∷ []) (drop (at + 5) out))
-
-pub line_put : (out : List ℕ) (at : ℕ) (x : Answer) (pin : ℕ) → at + 5 ≤ length out → set (set (set (set (set out at (get_or (text_of x) 0 0)) (at + 1) (get_or (text_of x) 1 0)) (at + 1 + 1) 32) (at + 1 + 1 + 1) pin) (at + 1 + 1 + 1 + 1) 10 ≡ put_of out at (line_of (text_of x) pin)
-line_put out at x pin h =
-    five out at (get_or (text_of x) 0 0) (get_or (text_of x) 1 0) 32 pin 10 h
-    ∙ ap (λ (t : List ℕ). take at out ++ ((t ++ (32 ∷ pin ∷ 10 ∷ [])) ++ drop (at + 5) out)) (sym (text_two x))
+-- a line written over five bytes of the output
+pub line_put : (out : List ℕ) (at : ℕ) (part line : List ℕ) → part ≡ line → put_mid at (at + 5 - at) out part ≡ put_of out at line
+line_put out at part line e = λ i. take at out ++ (e i ++ Post-is at (at + 5) out (omega arith) i)
 
 -- a line that is put: what is before it and the line, what is behind it, and the length
 module _ (out : List ℕ) (at : ℕ) (l : List ℕ) (five : length l ≡ 5) (h : at + 5 ≤ length out) where

@@ -31,12 +31,6 @@ ends h n e =
       events = leb-true (h.events + size) n (and_right (leb 8 h.events) (leb (h.events + size) n) events);
     }
 
--- a part of the file by its ends is the section by its size
-pub part : (file : List ℕ) (at n : ℕ) → take (at + n - at) (drop at file) ≡ section_of file at n
-part file at n =
-    let size : at + n - at ≡ n = omega arith in
-    ap (λ (k : ℕ). take k (drop at file)) size
-
 -- a section in the file has its size
 pub section_length : (file : List ℕ) (at n : ℕ) → at + n ≤ length file → length (section_of file at n) ≡ n
 section_length file at n h =

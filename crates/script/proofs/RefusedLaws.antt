@@ -4,6 +4,7 @@ use mathlib.Core.List.{List, [], ◌∷◌, ◌++◌}
 use Prim.Native.Nat.{ℕ, ◌+◌, ◌-◌, ◌*◌, ◌≤◌, ◌<◌}
 use native.Mathlib.Omega.{arith}
 use lib.ListN.{length, get_or, drop}
+use Rattle.std.specs.Prelude.{Option, Some, None, IsSome, is_some}
 use lib.Seq.{paste, take-length, drop-append-add, drop-drop}
 use borrow.Author.Tests.{lt-ltb, le-ltb}
 use Rattle.fields.proofs.Below.{agree}
@@ -49,14 +50,14 @@ line_put number out =
 
 -- what is put goes by the room for the line
 module _ (n size : ℕ) (out : List ℕ) (long : size ≡ length (refused_line n)) where
-  pub put_short : length out < size → has_put 0 out ≡ refused_put n out
+  pub put_short : length out < size → has_put None out ≡ refused_put n out
   unfolding refused_put
   put_short h = simp (lt-ltb (length out) (length (refused_line n)) (omega arith))
 
-  pub put_whole : size ≤ length out → (last : List ℕ) → last ≡ paste (paste out 0 refused_word 8) 8 (refused_number n) (length (refused_number n)) → has_put size last ≡ refused_put n out
+  pub put_whole : size ≤ length out → (last : List ℕ) → last ≡ paste (paste out 0 refused_word 8) 8 (refused_number n) (length (refused_number n)) → has_put (Some size) last ≡ refused_put n out
   unfolding refused_put
   put_whole h last e =
-      simp (le-ltb (length out) (length (refused_line n)) (omega arith)) (λ i. has_put (long i) ((e ∙ line_put (refused_number n) out) i))
+      simp (le-ltb (length out) (length (refused_line n)) (omega arith)) (λ i. has_put (Some (long i)) ((e ∙ line_put (refused_number n) out) i))
 
 -- an output of twelve bytes has room for every line
 line_length : (n : ℕ) → (10 ≤ length (refused_line n)) × (length (refused_line n) ≤ 12)
@@ -66,9 +67,19 @@ line_length n =
     either (less n 100) (λ two. let e = eleven_long n more two in (omega arith, omega arith))
     (λ three. let e = twelve_long n three in (omega arith, omega arith)))
 
-pub refused_room : (n size : ℕ) (out last : List ℕ) → has_put size last ≡ refused_put n out → 12 ≤ length out → (10 ≤ size) × (size ≤ 12)
+pub refused_room : (n : ℕ) (size : Option ℕ) (out last : List ℕ) → has_put size last ≡ refused_put n out → 12 ≤ length out → (k : ℕ) × ((size ≡ Some k) × ((10 ≤ k) × (k ≤ 12)))
 unfolding refused_put
 refused_room n size out last e h =
     let l = line_length n in
-    let s : size ≡ length (refused_line n) = simp (le-ltb (length out) (length (refused_line n)) (omega arith)) at (ap (λ (p : Put). p.size) e) in
-    (omega arith, omega arith)
+    (length (refused_line n), (simp (le-ltb (length out) (length (refused_line n)) (omega arith)) at (ap (λ (p : Put). p.size) e), l))
+
+-- so there the line is put, and has as many bytes as are told
+module _ (n : ℕ) (size : Option ℕ) (out last : List ℕ) (e : has_put size last ≡ refused_put n out) (h : 12 ≤ length out) where
+  pub refused_some : IsSome size
+  refused_some = ap is_some (refused_room n size out last e h).1.0
+
+  pub refused_size : (k : ℕ) → size ≡ Some k → (10 ≤ k) × (k ≤ 12)
+  refused_size k p =
+      let r = refused_room n size out last e h in
+      let same : k ≡ r.0 = cc in
+      (omega arith, omega arith)

@@ -7,6 +7,7 @@ use native.Mathlib.Omega.{arith}
 use lib.Dec.{eqb}
 use lib.ListN.{length, take, drop}
 use lib.Seq.{take_at, drop_at}
+use Rattle.std.specs.Prelude.{Ok}
 use borrow.Author.Tests.{eqb-true, eqb-false}
 use Rattle.events.specs.declared.event.Event.{Event}
 use Rattle.events.specs.Refusal.{fault_in}
@@ -18,11 +19,12 @@ use Rattle.sd2068.specs.Power.{zero_start, power_on_of}
 use Rattle.sd2068.specs.Run.{told_by, after_of}
 use Rattle.sd2068.proofs.WellLaws.{Well, power_on_well, step_well, step_taken}
 use Rattle.script.specs.declared.header.Header.{Header}
+use Rattle.script.specs.declared.file.Ran.{Ran}
 use Rattle.script.specs.Header.{header_of}
 use Rattle.script.specs.Checks.{Found, found_at, first_of, start_bytes_of, events_of, checked_of}
 use Rattle.script.specs.Rows.{header_word, listed_of, starts_of, Due}
 use Rattle.script.specs.Lines.{lines_of}
-use Rattle.script.specs.File.{Run, good_of, refused_of, run_of}
+use Rattle.script.specs.File.{Run, good_of, refused_of, run_of, ran}
 use Rattle.script.proofs.EventLaws.{events_listed}
 use Rattle.script.proofs.FileLaws.{good, start_state, events_count, run_accepted, run_refused}
 use Rattle.script.proofs.LineLaws.{lines_length}
@@ -157,6 +159,12 @@ module _ (file out : List ℕ) where
       (λ more.
       let count = ap (λ (r : Run). r.count) (run_refused file out more) in
       omega arith)
+
+-- so a result counts no more events than there was room for
+pub run_room : (r : Ran) (file out last : List ℕ) → ran (Ok r) last ≡ run_of file out → r.count * 5 ≤ length out
+run_room r file out last e =
+    let count = ap (λ (m : Run). m.count) e in
+    omega (arith, run_fits file out)
 
 -- an output of 20,445 bytes is never too short
 enough_room : {file : List ℕ} {room n i : ℕ} → 20445 ≤ room → Due file room n i → n ≡ 7 → ⊥

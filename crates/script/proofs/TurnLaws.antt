@@ -2,9 +2,8 @@
 use mathlib.Core.Path.{◌≡◌, refl, sym, ap, ◌∙◌, subst}
 use mathlib.Core.Bool.{Bool, true, false, cond, true≢false}
 use mathlib.Core.List.{List, [], ◌∷◌}
-use Prim.Native.Nat.{ℕ, zero, suc, ◌+◌, ◌-◌, ◌/◌, ◌<◌}
+use Prim.Native.Nat.{ℕ, ◌+◌, ◌-◌, ◌*◌, ◌/◌, ◌<◌}
 use native.Mathlib.Omega.{arith}
-use native.Mathlib.Nat.{not-suc-le-zero}
 use lib.Dec.{eqb}
 use lib.ListN.{length, get_or}
 use borrow.Author.Tests.{eq-eqb, eqb-true}
@@ -19,12 +18,13 @@ use Rattle.state_events.specs.Said.{Said, pin_in, text_in}
 use Rattle.state_events.specs.Event.{Lent, lent, tell_in, done_of}
 use Rattle.state_events.proofs.ByteLaws.{decoded_small}
 use Rattle.state_events.proofs.SaidLaws.{done_says}
-use Rattle.state_events.proofs.TellLaws.{Stands, stands_long, tell_done, tell_stands, tell_clock}
-use Rattle.script.specs.Event.{event_at, events_from, events_in}
+use Rattle.state_events.proofs.TellLaws.{Stands, tell_done, tell_stands, tell_clock}
+use Rattle.script.specs.Event.{event_at, events_in}
 use Rattle.script.specs.Checks.{Found, found_at, first_of}
 use Rattle.script.specs.Lines.{line_of, put_of}
 use Rattle.script.specs.File.{can_run}
-use Rattle.script.proofs.LineLaws.{Stage, begins, told_line, turns}
+use Rattle.script.proofs.SearchLaws.{left_of, left_all, left_first, chunk_at}
+use Rattle.script.proofs.LineLaws.{Stage, begins, told_line, turns, line_put}
 
 -- no event is at fault
 data Sound : List Event → Type 0 where
@@ -49,48 +49,55 @@ sound (e ∷ es) i h =
     more z (sound es (i + 1) (rest_sound (eqb (fault_in e) 0) (fault_in e) i rest refl z h))
 
 -- of the events that are left
-head_sound : (s : List ℕ) (at left : ℕ) → 0 < left → Sound (events_from s at left) → fault_in (event_at s at) ≡ 0
-head_sound s at zero h x = absurd (not-suc-le-zero h)
-head_sound s at (suc k) h (more z x) = z
+head_sound : {e : Event} {es : List Event} → Sound (e ∷ es) → fault_in e ≡ 0
+head_sound (more z x) = z
 
-tail_sound : (s : List ℕ) (at left : ℕ) → 0 < left → Sound (events_from s at left) → Sound (events_from s (at + 4) (left - 1))
-tail_sound s at zero h x = absurd (not-suc-le-zero h)
-tail_sound s at (suc k) h (more z x) =
-    let one : k ≡ suc k - 1 = omega arith in
-    subst (λ (m : ℕ). Sound (events_from s (at + 4) m)) one x
+tail_sound : {e : Event} {es : List Event} → Sound (e ∷ es) → Sound es
+tail_sound (more z x) = x
 
 -- what is asked of the bytes
 pub run_stands : {s : List ℕ} → (well_formed_of (clock_of s) ≡ true) × (bytes_of (clock_of s) ≡ s) → Stands s
 run_stands r = record { well = r.0; again = r.1 }
 
+-- where a run stands at the event with index i
+abbrev pub At : List ℕ → List ℕ → Clock → List ℕ → Clock → ℕ → Type 0
+At s out₀ c₀ out c i = Stage s out₀ c₀ out c (length s / 4 - i) (4 * i) (5 * i)
+
 -- where a run on bytes stands: as far as one on their state, and they are that state's
-pub record Turn (s out₀ : List ℕ) (c₀ : Clock) (out state : List ℕ) (left at line : ℕ) : Type 0 where
-  pub stage : Stage s out₀ c₀ out (clock_of state) left at line
-  pub each : (i : ℕ) → get_or state i 0 < 256
+pub record Turn (s out₀ : List ℕ) (c₀ : Clock) (out state : List ℕ) (i : ℕ) : Type 0 where
+  pub stage : At s out₀ c₀ out (clock_of state) i
+  pub each : (k : ℕ) → get_or state k 0 < 256
   stands : Stands state
-  sound : Sound (events_from s at left)
+  sound : Sound (left_of s i)
 
 pub starts :
-    (s out state : List ℕ) → ((i : ℕ) → get_or state i 0 < 256) → can_run state (events_in s) (length s / 4) (length out) →
-    Turn s out (clock_of state) out state (length s / 4) 0 0
-unfolding events_in
+    (s out state : List ℕ) → ((k : ℕ) → get_or state k 0 < 256) → can_run state (events_in s) (length s / 4) (length out) →
+    Turn s out (clock_of state) out state 0
 starts s out state each r =
+    let all : length s / 4 ≡ length s / 4 - 0 = omega arith in
     record {
-      stage = begins s out (clock_of state) r.0;
+      stage = subst (λ (n : ℕ). Stage s out (clock_of state) out (clock_of state) n 0 0) all (begins s out (clock_of state) r.0);
       each = each;
       stands = run_stands r.1.1;
-      sound = sound (events_in s) 0 r.1.0;
+      sound = subst Sound (sym (left_all s)) (sound (events_in s) 0 r.1.0);
     }
 
--- no turn changes how long they are
-pub as_long :
-    {s out₀ : List ℕ} {c₀ : Clock} {out state state₀ : List ℕ} {left at line : ℕ} → Turn s out₀ c₀ out state left at line → Stands state₀ →
-    length state ≡ length state₀
-as_long g begun = stands_long g.stands ∙ sym (stands_long begun)
+-- behind the event with index i comes the next one
+next_at : (s out₀ : List ℕ) (c₀ : Clock) (out : List ℕ) (c : Clock) (i : ℕ) → Stage s out₀ c₀ out c (length s / 4 - i - 1) (4 * i + 4) (5 * i + 5) → At s out₀ c₀ out c (i + 1)
+next_at s out₀ c₀ out c i g =
+    let less : length s / 4 - i - 1 ≡ length s / 4 - (i + 1) = omega arith in
+    let event : 4 * i + 4 ≡ 4 * (i + 1) = omega arith in
+    let line : 5 * i + 5 ≡ 5 * (i + 1) = omega arith in
+    subst (λ (n : ℕ). Stage s out₀ c₀ out c n (4 * (i + 1)) (5 * (i + 1))) less
+    (subst (λ (n : ℕ). Stage s out₀ c₀ out c (length s / 4 - i - 1) n (5 * (i + 1))) event
+    (subst (λ (n : ℕ). Stage s out₀ c₀ out c (length s / 4 - i - 1) (4 * i + 4) n) line g))
 
-module _ {s out₀ : List ℕ} {c₀ : Clock} {out state : List ℕ} {left at line : ℕ} (g : Turn s out₀ c₀ out state left at line) (more : 0 < left) where
+module _ {s out₀ : List ℕ} {c₀ : Clock} {out state : List ℕ} {i : ℕ} (g : Turn s out₀ c₀ out state i) (more : i < length s / 4) where
   abbrev first : Event
-  first = event_at s at
+  first = event_at s (4 * i)
+
+  left_sound : Sound (first ∷ left_of s (i + 1))
+  left_sound = subst Sound (left_first s i more) g.sound
 
   -- one event is told: what it leaves are the bytes of its step's state, and the line by it is the step's
   module _ (e : Event) (event : e ≡ first) (n : ℕ) (next : List ℕ) (tells : lent n next ≡ tell_in state 0 e.kind e.byte e.count) where
@@ -101,7 +108,7 @@ module _ {s out₀ : List ℕ} {c₀ : Clock} {out state : List ℕ} {left at li
     told =
         tells
         ∙ ap (λ (x : Event). tell_in state 0 x.kind x.byte x.count) event
-        ∙ ap (λ (k : ℕ). tell_in state k first.kind first.byte first.count) (sym (head_sound s at left more g.sound))
+        ∙ ap (λ (k : ℕ). tell_in state k first.kind first.byte first.count) (sym (head_sound left_sound))
         ∙ tell_done state g.stands first.kind first.byte first.count
 
     line_told : line_of (text_in n) (pin_in n) ≡ told_line (told_by (clock_of state) first)
@@ -114,14 +121,18 @@ module _ {s out₀ : List ℕ} {c₀ : Clock} {out state : List ℕ} {left at li
     next_is = ap (λ (l : Lent). l.state) told
 
     pub goes_on :
-        (lines : List ℕ) → ((i : ℕ) → get_or next i 0 < 256) → lines ≡ put_of out line (line_of (text_in n) (pin_in n)) →
-        Turn s out₀ c₀ lines next (left - 1) (at + 4) (line + 5)
+        (lines : List ℕ) → ((k : ℕ) → get_or next k 0 < 256) → lines ≡ put_of out (5 * i) (line_of (text_in n) (pin_in n)) →
+        Turn s out₀ c₀ lines next (i + 1)
     goes_on lines each put =
         record {
           stage =
-              turns g.stage more lines (clock_of next) (put ∙ ap (put_of out line) line_told)
-              (ap clock_of next_is ∙ tell_clock state g.stands first.kind first.byte first.count);
+              next_at s out₀ c₀ lines (clock_of next) i
+              (turns g.stage (omega arith) lines (clock_of next) (put ∙ ap (put_of out (5 * i)) line_told)
+              (ap clock_of next_is ∙ tell_clock state g.stands first.kind first.byte first.count));
           each = each;
           stands = subst Stands (sym next_is) (tell_stands state g.stands first.kind first.byte first.count);
-          sound = tail_sound s at left more g.sound;
+          sound = tail_sound left_sound;
         }
+
+-- what a run of events goes by
+pub ruleset turn_steps = (starts, goes_on, line_put, chunk_at)

@@ -1,5 +1,5 @@
 -- The refusals of a file, in their order. (rule 9.4)
-use Rattle.std.specs.Prelude.{cond, List, [], ◌∷◌, ℕ, ◌+◌, ◌*◌, eqb, ltb, length}
+use Rattle.std.specs.Prelude.{cond, List, [], ◌∷◌, ℕ, ◌+◌, ◌*◌, eqb, ltb, length, Result, Ok, Err}
 use Rattle.registers.specs.Fixed.{clear_time_of}
 use Rattle.events.specs.declared.event.Event.{Event}
 use Rattle.events.specs.Refusal.{number_of, fault_in}
@@ -52,5 +52,6 @@ checked_of file room =
     (cond (sections_of (header_of file) (length file)) (placed_of file (header_of file) room) (found_at 5 0)))
 
 -- what the check's answer says
-abbrev pub found : Fault → Found
-found r = record { refusal = number_of r.refusal; index = r.index }
+abbrev pub found : {T : Type 0} → Result T Fault → Found
+found (Ok x) = none
+found (Err f) = found_at (number_of f.refusal) f.index

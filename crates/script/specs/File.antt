@@ -1,5 +1,5 @@
 -- The run of a file, for good and bad files alike. (rules 9.4 and 9.5)
-use Rattle.std.specs.Prelude.{◌≡◌, true, cond, List, ◌++◌, ℕ, ◌*◌, ◌≤◌, eqb, length, drop}
+use Rattle.std.specs.Prelude.{◌≡◌, true, cond, List, ◌++◌, ℕ, ◌*◌, ◌≤◌, eqb, length, drop, Result, Ok, Err}
 use Rattle.events.specs.declared.event.Event.{Event}
 use Rattle.events.specs.Refusal.{number_of}
 use Rattle.sd2068.specs.declared.clock.Clock.{Clock}
@@ -11,6 +11,7 @@ use Rattle.state_bytes.specs.Decoded.{clock_of}
 use Rattle.state_bytes.specs.Encoded.{bytes_of}
 use Rattle.script.specs.declared.header.Header.{Header}
 use Rattle.script.specs.declared.file.Ran.{Ran}
+use Rattle.script.specs.declared.file.Refused.{Refused}
 use Rattle.script.specs.Header.{header_of}
 use Rattle.script.specs.Checks.{Found, first_of, start_bytes_of, events_of, checked_of}
 use Rattle.script.specs.Lines.{lines_of}
@@ -53,5 +54,6 @@ run_of file out =
     cond (eqb f.refusal 0) (good_of file (header_of file) out) (refused_of f out)
 
 -- what a result and its output say
-abbrev pub ran : Ran → List ℕ → Run
-ran r out = record { refusal = number_of r.refusal; index = r.index; count = r.count; state = r.clock; output = out }
+abbrev pub ran : Result Ran Refused → List ℕ → Run
+ran (Ok r) out = record { refusal = 0; index = 0; count = r.count; state = r.clock; output = out }
+ran (Err r) out = record { refusal = number_of r.refusal; index = r.index; count = 0; state = r.clock; output = out }

@@ -1,5 +1,5 @@
 -- The line of a refusal, and what it leaves in an output. (rule 9.6)
-use Rattle.std.specs.Prelude.{cond, List, [], ◌∷◌, ◌++◌, ℕ, ◌+◌, ◌/◌, ◌%◌, ltb, length, drop}
+use Rattle.std.specs.Prelude.{cond, List, [], ◌∷◌, ◌++◌, ℕ, ◌+◌, ◌/◌, ◌%◌, ltb, length, drop, Option, Some, None}
 
 -- `refused` and a space
 abbrev pub refused_word : List ℕ
@@ -23,16 +23,16 @@ refused_number n = decimal_of n ++ (10 ∷ [])
 abbrev pub refused_line : ℕ → List ℕ
 refused_line n = refused_word ++ refused_number n
 
--- how many bytes are put, and the output that has them
+-- how many bytes are put, none where there is no room, and the output that has them
 pub record Put : Type 0 where
-  pub size : ℕ
+  pub size : Option ℕ
   pub output : List ℕ
 
-abbrev pub has_put : ℕ → List ℕ → Put
+abbrev pub has_put : Option ℕ → List ℕ → Put
 has_put n out = record { size = n; output = out }
 
 -- the line stands at the beginning of the output; one that is too short for it stays as it is
 unfoldable pub refused_put : ℕ → List ℕ → Put
 refused_put n out =
     let line = refused_line n in
-    cond (ltb (length out) (length line)) (has_put 0 out) (has_put (length line) (line ++ drop (length line) out))
+    cond (ltb (length out) (length line)) (has_put None out) (has_put (Some (length line)) (line ++ drop (length line) out))

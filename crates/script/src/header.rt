@@ -1,12 +1,15 @@
 // The four words that a file begins with. (rule 9.1)
-ghost use Rattle.std.specs.Prelude.{◌≡◌, ◌≤◌, length};
+ghost use Rattle.std.specs.Prelude.{◌≡◌, ◌+◌, ◌^◌, ◌<◌, get_or};
 ghost use Rattle.script.specs.Header.{word_of, header_of};
 
-// A little-endian word.
-pub(crate) fn word(low: u8, high: u8) -> u16
-    ensures { result ≡ word_of low high }
+use state_bytes::at;
+
+// A little-endian word, past the end of a file with 0 in its place.
+pub(crate) fn word_at(file: &[u8], i: usize) -> u16
+    requires { i < 2 ^ 32 }
+    ensures { result ≡ word_of (get_or file.now i 0) (get_or file.now (i + 1) 0) }
 {
-    low as u16 + high as u16 * 256
+    u16::from_le_bytes([at(file, i), at(file, i + 1)])
 }
 
 // How many events there are and where, and the same of the start bytes.
@@ -18,14 +21,14 @@ pub struct Header {
     pub start: u16,
 }
 
+// The four words of a file. (rule 9.1)
 pub(crate) fn header_of(file: &[u8]) -> Header
-    requires { 8 ≤ length file.now }
     ensures { result ≡ header_of file.now }
 {
     Header {
-        count: word(file[0], file[1]),
-        events: word(file[2], file[3]),
-        starts: word(file[4], file[5]),
-        start: word(file[6], file[7]),
+        count: word_at(file, 0),
+        events: word_at(file, 2),
+        starts: word_at(file, 4),
+        start: word_at(file, 6),
     }
 }

@@ -11,5 +11,5 @@ mod refused;
 mod sections;
 
 pub use contents::{listed, start};
-pub use file::{Ran, run};
+pub use file::{Ran, Refused, run};
 pub use refused::{LONGEST_REFUSED, put_refused};

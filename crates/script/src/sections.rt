@@ -1,6 +1,6 @@
-// Where sections may lie. (rule 9.2)
-ghost use Rattle.std.specs.Prelude.{◌≡◌};
-ghost use Rattle.script.specs.Sections.{inside_of, apart_of, sections_of};
+// Where sections may lie, and what stands in them. (rule 9.2)
+ghost use Rattle.std.specs.Prelude.{◌≡◌, ◌*◌, true, length};
+ghost use Rattle.script.specs.Sections.{inside_of, apart_of, sections_of, section_of};
 
 use crate::header::Header;
 
@@ -21,6 +21,7 @@ fn apart(a: u16, n: u32, b: u16, m: u32) -> bool
 }
 
 // Whether the header's two sections may stand in a file of this length. (rule 9.2)
+#[tactic(auto, unfolding(crate::specs::Sections::sections_of))]
 pub(crate) fn sections(h: Header, length: usize) -> bool
     ensures { result ≡ sections_of h length }
 {
@@ -29,4 +30,19 @@ pub(crate) fn sections(h: Header, length: usize) -> bool
         & inside(h.start, 19, length)
         & inside(h.events, size, length)
         & apart(h.events, size, h.start, 19)
+}
+
+// What stands in the two: the start bytes and the events. (rule 9.2)
+#[tactic(auto, using(crate::proofs::PartLaws::ends))]
+pub(crate) fn parts(file: &[u8], h: Header) -> (&[u8], &[u8])
+    requires { sections_of h (length file.now) ≡ true }
+    ensures starts { result.0.now ≡ section_of file.now h.start 19 }
+    ensures events { result.1.now ≡ section_of file.now h.events (h.count * 4) }
+{
+    let start = h.start as usize;
+    let events = h.events as usize;
+    (
+        &file[start..start + 19],
+        &file[events..events + h.count as usize * 4],
+    )
 }

@@ -1,10 +1,5 @@
 -- Pulses that end no second and make no tick only count: taken at once before the next pulse they come to the same. Assumes nothing.
-use mathlib.Core.Path.{◌≡◌, sym, ap, ◌∙◌}
-use mathlib.Core.Bool.{true, false, ◌&&◌}
-use Prim.Native.Nat.{ℕ, zero, suc, ◌+◌, ◌-◌, ◌≤◌, ◌<◌}
-use native.Mathlib.Numerals.{add-one}
-use native.Mathlib.Omega.{arith}
-use lib.Dec.{eqb}
+use Rattle.std.proofs.Common.{◌≡◌, sym, ap, ◌∙◌, true, false, ◌&&◌, ℕ, zero, suc, ◌+◌, ◌-◌, ◌≤◌, ◌<◌, add-one, arith, eqb}
 use Rattle.calendar.specs.Repeat.{times}
 use Rattle.hand.specs.Hand as hand
 use Rattle.hand.proofs.SpanLaws.{times_add}
@@ -37,15 +32,10 @@ module _ (c : Clock) where
   drifts_none =
       ap pulse_of
       (λ i.
-      record {
+      record c {
         hand = hand_laws.drift_none c.hand i;
         alarm = alarm_laws.drift_none c.alarm i;
         countdown = countdown_laws.drift_none c.countdown c.control.intde i;
-        lock = c.lock;
-        control = c.control;
-        rtcf = c.rtcf;
-        ram = c.ram;
-        latched = c.latched;
         divider = turned_by_of c.divider 0;
         bus = older_of c.bus 0;
       })
@@ -57,15 +47,10 @@ module _ (c : Clock) where
       let h = hand.ticked_of (hand.drifted_of c.hand k) in
       let unasked : eqb h.counter 0 && c.control.intae ≡ false = simp (hand_laws.drift_within c.hand k room.second) in
       λ i.
-      record {
+      record c {
         hand = hand_laws.drift_more c.hand k room.second i;
         alarm = alarm_laws.drift_more c.alarm k c.hand.time h.time _ unasked i;
         countdown = countdown_laws.drift_more c.countdown tds c.control.intde k room.tick i;
-        lock = c.lock;
-        control = c.control;
-        rtcf = c.rtcf;
-        ram = c.ram;
-        latched = c.latched;
         divider = turned_more c.divider k i;
         bus = (older_add c.bus k 1 ∙ ap (older_of c.bus) (add-one k)) i;
       }

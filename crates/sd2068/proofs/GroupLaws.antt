@@ -1,12 +1,6 @@
 -- Each stage and event leaves alone what it does not own, and any number of pulses moves each group by itself. Assumes nothing.
-use mathlib.Core.Path.{◌≡◌, refl, ap, ◌∙◌}
-use mathlib.Core.Bool.{Bool, true, false, ◌&&◌}
-use mathlib.Core.List.{List}
-use mathlib.Core.Logic.{◌⊎◌, inl, inr}
-use Prim.Native.Nat.{ℕ, zero, suc, ◌≤◌, ◌<◌}
-use native.Mathlib.Omega.{arith}
-use lib.Dec.{eqb, ltb}
-use borrow.Author.Tests.{lt-ltb, le-ltb, ne_eqb}
+use Rattle.std.proofs.Common.{◌≡◌, refl, ap, ◌∙◌, Bool, true, false, ◌&&◌, List, ◌⊎◌, ℕ, zero, suc, ◌≤◌, ◌<◌, arith, eqb, ltb, Option, Some, None}
+use Rattle.std.proofs.lemmas.Bool.Decides.{nat_tests}
 use Rattle.calendar.specs.declared.time.Time.{Time}
 use Rattle.calendar.specs.Repeat.{times}
 use Rattle.hand.specs.declared.hand.Hand.{Hand}
@@ -21,9 +15,7 @@ use Rattle.control.specs.Lock as lock
 use Rattle.control.specs.Control as control
 use Rattle.bus.specs.declared.phase.Bus.{Bus}
 use Rattle.bus.specs.declared.bytes.Effect.{Effect}
-use Rattle.bus.specs.declared.bytes.Effect.TheVariants.{None, Latch, Write}
-use Rattle.bus.specs.declared.reads.Sent.{Sent}
-use Rattle.bus.specs.declared.reads.Sent.TheVariants.{Nothing, Register}
+use Rattle.bus.specs.declared.bytes.Effect.TheVariants as effect
 use Rattle.bus.specs.Phase.{older_of}
 use Rattle.bus.specs.Bytes.{heard_of}
 use Rattle.bus.specs.Reads as reads
@@ -37,9 +29,9 @@ use Rattle.sd2068.specs.Transfer.{started_of, stopped_of, effected_by, byte_of, 
 
 -- what is left of a byte's event once the bus, and what its effect owns, are put back
 abbrev pub Beside : Effect → Clock → ℕ → Clock → Type 0
-Beside None c b d = with_bus d c.bus ≡ c
-Beside Latch c b d = with_bus (with_latched d c.latched) c.bus ≡ c
-Beside (Write a) c b d = with_bus d c.bus ≡ write_of c a b
+Beside effect.None c b d = with_bus d c.bus ≡ c
+Beside effect.Latch c b d = with_bus (with_latched d c.latched) c.bus ≡ c
+Beside (effect.Write a) c b d = with_bus d c.bus ≡ write_of c a b
 
 -- with the groups that it owns put back, the state is the one before
 module _ (c : Clock) where
@@ -68,10 +60,10 @@ module _ (c : Clock) where
   unfolding stopped_of
   stop_alone = refl
 
-  sent_alone : (s : Sent) (ack : Bool) → with_bus (with_latched (sent_by s c ack).clock c.latched) c.bus ≡ c
+  sent_alone : (s : Option ℕ) (ack : Bool) → with_bus (with_latched (sent_by s c ack).clock c.latched) c.bus ≡ c
   unfolding renewed_of
-  sent_alone Nothing ack = refl
-  sent_alone (Register a) ack = refl
+  sent_alone None ack = refl
+  sent_alone (Some a) ack = refl
 
   pub read_alone : (ack : Bool) → with_bus (with_latched (read_of c ack).clock c.latched) c.bus ≡ c
   unfolding read_of
@@ -85,9 +77,9 @@ module _ (c : Clock) where
 module _ (c : Clock) (b : ℕ) where
   effect_alone : (e : Effect) (x : Bus) → Beside e c b (with_bus (effected_by e c b) x)
   unfolding write_of
-  effect_alone None x = refl
-  effect_alone Latch x = refl
-  effect_alone (Write a) x = refl
+  effect_alone effect.None x = refl
+  effect_alone effect.Latch x = refl
+  effect_alone (effect.Write a) x = refl
 
   pub byte_alone : Beside (heard_of c.bus b).effect c b (byte_of c b).clock
   unfolding byte_of
@@ -112,8 +104,7 @@ unstored_alone c a b e = simp e
 -- a stored byte leaves the groups alone that have no register at its address
 pub alarm_kept_lem : (x : Alarm) (a b : ℕ) → (a < 0x07) ⊎ (0x10 ≤ a) → alarm.stored_of x a b ≡ x
 unfolding alarm.stored_of
-alarm_kept_lem x a b (inl h) = simp (lt-ltb a 0x07 h, ne_eqb a 0x0E (λ e. omega arith), ne_eqb a 0x0F (λ e. omega arith))
-alarm_kept_lem x a b (inr h) = simp (le-ltb a 0x07 (omega arith), le-ltb a 0x0E (omega arith), ne_eqb a 0x0E (λ e. omega arith), ne_eqb a 0x0F (λ e. omega arith))
+alarm_kept_lem x a b h = grind (arith, nat_tests)
 
 pub countdown_kept_lem : (d : Countdown) (a b : ℕ) → eqb a 0x0F ≡ false → eqb a 0x11 ≡ false → eqb a 0x13 ≡ false → countdown.stored_of d a b ≡ d
 unfolding countdown.stored_of

@@ -1,10 +1,7 @@
 -- An event that is refused changes nothing, and any other is of kind 0 to 6 and does what its kind does. Assumes nothing.
-use mathlib.Core.Path.{◌≡◌, sym, subst}
-use mathlib.Core.Bool.{false}
-use Prim.Native.Nat.{ℕ, ◌≤◌, ◌<◌}
-use native.Mathlib.Decide.{ℕ_discrete, dec_lt}
-use native.Mathlib.Omega.{arith}
-use borrow.Author.Tests.{eq-eqb, ne_eqb, le-ltb}
+use Rattle.std.proofs.Common.{◌≡◌, sym, subst, false, ℕ, ◌≤◌, ◌<◌, arith}
+use Rattle.std.proofs.lemmas.Bool.Decides.{nat_tests}
+use native.Mathlib.Decide.{ℕ_discrete}
 use Rattle.events.specs.declared.event.Event.{Event}
 use Rattle.events.specs.Refusal.{fault_of, fault_in}
 use Rattle.sd2068.specs.declared.clock.Clock.{Clock}
@@ -23,25 +20,19 @@ each_kind P p0 p1 p2 p3 p4 p5 others k =
 
 -- row 2 keeps out what is over 6
 pub small_kind : (kind byte count : ℕ) → fault_of kind byte count ≡ 0 → kind < 7
-small_kind kind byte count good =
-    elim (dec_lt kind 7) [
-      | yes l ↦ l
-      | no l ↦
-          let two : fault_of kind byte count ≡ 2 = simp (le-ltb kind 7 (omega arith)) in
-          omega (arith, two, good)
-    ]
+small_kind kind byte count good = grind (arith, nat_tests)
 
 -- a refused event leaves the state, makes no pulse and is no read
 module _ (e : Event) (bad : fault_in e ≡ 0 → ⊥) where
   pub refused_state : (c : Clock) → (taken_of c e).clock ≡ c
-  refused_state c = simp (ne_eqb (fault_in e) 0 bad)
+  refused_state c = grind (arith, nat_tests)
 
   pub refused_pulses : pulses_by e ≡ 0
-  refused_pulses = simp (ne_eqb (fault_in e) 0 bad)
+  refused_pulses = grind (arith, nat_tests)
 
   pub refused_read : read_by e ≡ false
-  refused_read = simp (ne_eqb (fault_in e) 0 bad)
+  refused_read = grind (arith, nat_tests)
 
 -- an event that is not refused does what its kind does
 pub good_taken : (e : Event) → fault_in e ≡ 0 → (c : Clock) → taken_of c e ≡ event_of c e.kind e.byte e.count
-good_taken e good c = simp (eq-eqb (fault_in e) 0 good)
+good_taken e good c = simp good

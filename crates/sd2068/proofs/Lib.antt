@@ -1,3 +1,4 @@
+pub mod StartLaws
 pub mod RegisterLaws
 pub mod GroupLaws
 pub mod DriftLaws

@@ -1,12 +1,6 @@
 -- A state is well formed exactly if it is as refusal 1's row lists it. Assumes nothing.
-use mathlib.Core.Path.{◌≡◌, refl, sym, subst}
-use mathlib.Core.Bool.{Bool, true, false, ◌||◌, not, true≢false}
-use Prim.Native.Nat.{ℕ, ◌+◌, ◌≤◌, ◌<◌}
-use native.Mathlib.Omega.{arith}
-use lib.Dec.{eqb, eqb→eq}
-use lib.ListN.{get_or}
-use borrow.Author.Count.{below_none, below_more}
-use borrow.Author.Tests.{eqb-true, eq-eqb}
+use Rattle.std.proofs.Common.{◌≡◌, refl, Bool, true, false, ◌||◌, not, ℕ, ◌+◌, ◌≤◌, ◌<◌, arith, eqb, eqb→eq, get_or, below_none, below_more, eqb-true, eq-eqb, true≢false}
+use Rattle.std.proofs.lemmas.Bool.Decides.{nat_tests}
 use Rattle.fields.proofs.Bits.{each_bit}
 use Rattle.registers.specs.Fixed.{kept_ctr1, kept_time, kept_alarm, kept_control, kept_of, clear_of, clear_time_of}
 use Rattle.registers.specs.Seven.{byte_at_of}
@@ -44,26 +38,20 @@ pub ctr1_clear : (a b c d e : Bool) → kept_ctr1 (ctr1 a b c d e) ≡ ctr1 a b 
 ctr1_clear a b c d e = eqb→eq _ _ (each_bit 5 (λ a b c d e. eqb (kept_ctr1 (ctr1 a b c d e)) (ctr1 a b c d e)) tt a b c d e)
 
 lock_listed : (one two three : Bool) → one || not (two || three) ≡ true → one ≡ false → (two ≡ false) × (three ≡ false)
-lock_listed true two three h e = absurd (true≢false e)
-lock_listed false true three h e = absurd (true≢false (sym h))
-lock_listed false false true h e = absurd (true≢false (sym h))
-lock_listed false false false h e = (refl, refl)
+lock_listed one two three h e = grind (arith, nat_tests)
 
 listed_lock : (one two three : Bool) → (one ≡ false → (two ≡ false) × (three ≡ false)) → one || not (two || three) ≡ true
-listed_lock true two three h = refl
-listed_lock false true three h = absurd (true≢false (h refl).0)
-listed_lock false false true h = absurd (true≢false (h refl).1)
-listed_lock false false false h = refl
+listed_lock one two three h = grind (arith, nat_tests)
 
 open_one : (n m : Mode) (s t : Transfer) → Open n s ≡ Open m t → s ≡ t
 open_one n m s t e = cc
 
 closed_open : (m : Mode) (t : Transfer) → Closed ≡ Open m t → ⊥
-closed_open m t e = let z : ◌≡◌ {A = ℕ} 0 1 = cc in omega arith
+closed_open m t e = true≢false (cc)
 
 age_listed : {b : Bus} → bus_laws.Well b → (m : Mode) (t : Transfer) → b.phase ≡ Open m t → t.age ≤ 16383
 age_listed (shut h) m t e = absurd (closed_open m t e)
-age_listed (opened {m = n} {t = s} h a) m t e = subst (λ (x : Transfer). x.age ≤ 16383) (open_one n m s t e) a
+age_listed (opened {m = n} {t = s} h a) m t e = rw (open_one n m s t e) at a
 
 listed_bus : (f : Phase) (p : ℕ) → p ≤ 31 → ((m : Mode) (t : Transfer) → f ≡ Open m t → t.age ≤ 16383) → bus_laws.Well (record { pointer = p; phase = f })
 listed_bus Closed p h a = shut h

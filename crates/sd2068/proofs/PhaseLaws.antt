@@ -1,7 +1,5 @@
 -- What an event of the bus does in the phase in which it comes, on any state. Assumes nothing.
-use mathlib.Core.Path.{◌≡◌}
-use mathlib.Core.Bool.{Bool, cond, ◌||◌}
-use Prim.Native.Nat.{ℕ}
+use Rattle.std.proofs.Common.{◌≡◌, Bool, cond, ◌||◌, ℕ}
 use Rattle.bus.specs.declared.phase.Mode.TheVariants.{Address, Pointer, Writing, Reading, Deaf}
 use Rattle.bus.specs.declared.phase.Transfer.{Transfer}
 use Rattle.bus.specs.Phase.{next_of}

@@ -1,12 +1,6 @@
 -- Seven reads show the latched bytes one after the other, whatever the time does meanwhile. Assumes nothing.
-use mathlib.Core.Path.{◌≡◌, refl, sym, ap, ◌∙◌, subst}
-use mathlib.Core.Bool.{Bool, true, false, cond, ◌||◌}
-use mathlib.Core.List.{List, [], ◌∷◌, ◌++◌}
-use mathlib.Core.Logic.{◌⊎◌, inl, inr}
-use Prim.Native.Nat.{ℕ, ◌+◌, ◌<◌}
-use native.Mathlib.Omega.{arith}
-use lib.ListN.{get_or}
-use borrow.Author.Tests.{ne_eqb, lt-ltb}
+use Rattle.std.proofs.Common.{◌≡◌, refl, sym, ap, ◌∙◌, subst, Bool, true, false, cond, ◌||◌, List, [], ◌∷◌, ◌++◌, ◌⊎◌, inl, inr, ℕ, ◌+◌, ◌<◌, arith, get_or, ne_eqb, lt-ltb}
+use Rattle.std.proofs.lemmas.Bool.Decides.{nat_tests}
 use Rattle.calendar.specs.declared.time.Time.{Time}
 use Rattle.registers.specs.Seven.{bytes_of}
 use Rattle.bus.specs.declared.phase.Mode.TheVariants.{Reading}
@@ -51,7 +45,7 @@ character u i = text_of (Byte (get_or (bytes_of u) i 0))
 
 module _ (u : Time) (i : ℕ) (low : i < 7) where
   next_one : next_of i ≡ i + 1
-  next_one = simp (lt-ltb i 0x1F (omega arith))
+  next_one = grind (arith, nat_tests)
 
   latch_kept : (c : Clock) → (renewed_of c i).latched ≡ c.latched
   unfolding renewed_of

@@ -1,13 +1,5 @@
 -- A step and a power-on are refused exactly when a row says so, and then change nothing. Assumes nothing.
-use mathlib.Core.Path.{◌≡◌, refl, sym, ◌∙◌}
-use mathlib.Core.Bool.{Bool, true, false, cond, ◌&&◌, true≢false}
-use mathlib.Core.List.{List, [], ◌∷◌}
-use Prim.Native.Nat.{ℕ, ◌+◌, ◌<◌}
-use native.Mathlib.Omega.{arith}
-use lib.Dec.{eqb}
-use lib.ListN.{length, get_or}
-use borrow.Author.Count.{below_none, below_more}
-use borrow.Author.Tests.{ne_eqb}
+use Rattle.std.proofs.Common.{◌≡◌, sym, ◌∙◌, Bool, true, cond, ◌&&◌, true≢false, List, [], ◌∷◌, ℕ, ◌+◌, ◌<◌, arith, length, get_or, below_none, below_more, ne_eqb, eqb}
 use Rattle.registers.specs.Fixed.{clear_of, clear_time_of}
 use Rattle.events.specs.Refusal.{fault_of}
 use Rattle.events.proofs.Telling.{Tells, told, equal, turned, chosen, is_true, is_false, also}
@@ -83,7 +75,7 @@ module _ (s : List ℕ) where
       (more 3 (omega arith) (more 2 (omega arith) (more 1 (omega arith) first)))))
 
   pub not_clear : ClearTime s → Row6 s → ⊥
-  not_clear all x = true≢false (sym (all x.r x.time) ∙ x.fixed)
+  not_clear all x = let clear = all x.r x.time in true≢false (cc)
 
   -- a power-on that is taken, and one that is refused with n
   abbrev good : Power
@@ -103,9 +95,7 @@ module _ (s : List ℕ) where
       PowerDue.due5
 
   power_by : (long clear : Bool) → ((cond long (cond clear good (bad 6)) (bad 5)).refusal ≡ 0 → ⊥) → (cond long (cond clear good (bad 6)) (bad 5)).state ≡ zero_start
-  power_by true true n = absurd (n refl)
-  power_by true false n = refl
-  power_by false clear n = refl
+  power_by long clear n = grind arith
 
   pub power_refused : ((power_on_of s).refusal ≡ 0 → ⊥) → (power_on_of s).state ≡ zero_start
   unfolding power_on_of

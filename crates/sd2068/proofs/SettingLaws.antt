@@ -1,12 +1,6 @@
 -- A setting leaves what the registers keep of the bytes sent, and a counter that began anew with the seconds. Assumes nothing.
-use mathlib.Core.Path.{◌≡◌, refl, sym, ap, ap₂, ◌∙◌, subst}
-use mathlib.Core.Bool.{Bool, true, false, cond}
-use mathlib.Core.List.{List, [], ◌∷◌, ◌++◌}
-use Prim.Native.Nat.{ℕ, zero, suc, ◌+◌, ◌≤◌, ◌<◌}
-use native.Mathlib.Nat.{add-zero}
-use native.Mathlib.Omega.{arith}
-use lib.Dec.{ltb}
-use borrow.Author.Tests.{ne_eqb, lt-ltb}
+use Rattle.std.proofs.Common.{◌≡◌, refl, sym, ap, ap₂, ◌∙◌, subst, Bool, true, false, cond, List, [], ◌∷◌, ◌++◌, ℕ, zero, suc, ◌+◌, ◌≤◌, ◌<◌, add-zero, arith, ltb, lt-ltb}
+use Rattle.std.proofs.lemmas.Bool.Decides.{nat_tests}
 use Rattle.calendar.specs.declared.time.Time.{Time}
 use Rattle.calendar.specs.Repeat.{times}
 use Rattle.registers.specs.Fixed.{kept_of}
@@ -134,7 +128,7 @@ set t trim s i =
 module _ (c : Clock) (a b : ℕ) (low : a < 0x0F) (u : Unlocked c) where
   same : written_of c.lock a b ≡ c.lock
   unfolding written_of
-  same = simp (ne_eqb a 0x0F (λ e. omega arith), ne_eqb a 0x10 (λ e. omega arith))
+  same = grind (arith, nat_tests)
 
   is_stored : stores_of c a b ≡ true
   is_stored = rw same (simp (u.wrtc1, u.wrtc2, u.wrtc3))

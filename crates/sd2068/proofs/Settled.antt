@@ -1,9 +1,9 @@
 -- Every public contract of this crate settles its result. Assumes nothing.
-use mathlib.Core.Path.{◌≡◌, refl}
+use Rattle.std.proofs.Common.{◌≡◌, refl}
 use Rattle.fields.proofs.Settles.{Settles, settled}
 use Rattle.control.specs.Pin.{letter_of}
 use Rattle.control.proofs.Settled.{level_back, level_again}
-use Rattle.events.proofs.Settled.{refusal_back, refusal_again, answer_back, answer_again}
+use Rattle.events.proofs.Settled.{option_back, option_again, answer_back, answer_again}
 use Rattle.sd2068.specs.declared.answers.Started.{Started}
 use Rattle.sd2068.specs.declared.answers.Stepped.{Stepped}
 use Rattle.sd2068.specs.Power.{Power}
@@ -28,7 +28,7 @@ use Rattle.sd2068.proofs.clock.Clock.step.Reads as step_reads
 abbrev stepped_back : Told → Stepped
 stepped_back t =
     record {
-      refusal = refusal_back t.refusal;
+      refusal = option_back t.refusal;
       clock = t.state;
       answer = answer_back t.answer;
       pin = level_back t.pin;
@@ -38,17 +38,17 @@ stepped_again : (x : Stepped) → stepped_back (stepped x) ≡ x
 stepped_again x =
     λ i.
     record {
-      refusal = refusal_again x.refusal i;
+      refusal = option_again x.refusal i;
       clock = x.clock;
       answer = answer_again x.answer i;
       pin = level_again x.pin i;
     }
 
 abbrev pub started_back : Power → Started
-started_back p = record { refusal = refusal_back p.refusal; clock = p.state }
+started_back p = record { refusal = option_back p.refusal; clock = p.state }
 
 pub started_again : (x : Started) → started_back (started x) ≡ x
-started_again x = λ i. record { refusal = refusal_again x.refusal i; clock = x.clock }
+started_again x = λ i. record { refusal = option_again x.refusal i; clock = x.clock }
 
 -- what is said of all registers, of a power-on and of a step, for crates above
 abbrev pub RegistersSettles : Type 0

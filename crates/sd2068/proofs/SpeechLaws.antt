@@ -1,11 +1,7 @@
 -- Events with pulses between them lead from stage to stage as they would without, as long as the transfer does not time out. Assumes nothing.
-use mathlib.Core.Path.{◌≡◌, refl, sym, ap, ap₂, ◌∙◌, subst}
-use mathlib.Core.Bool.{Bool, true, false, cond, ◌||◌, not}
-use mathlib.Core.List.{List, [], ◌∷◌, ◌++◌}
-use Prim.Native.Nat.{ℕ, ◌+◌, ◌<◌}
-use native.Mathlib.Omega.{arith}
-use lib.Dec.{eqb}
-use borrow.Author.Tests.{eqb-true, eqb-false, eq-eqb, ne_eqb}
+use Rattle.std.proofs.Common.{◌≡◌, refl, sym, ap, ap₂, ◌∙◌, subst, Bool, true, false, cond, ◌||◌, not, List, [], ◌∷◌, ◌++◌, ℕ, ◌+◌, ◌<◌, arith, eqb, eqb-true}
+use Rattle.std.proofs.lemmas.Bool.Decides.{nat_tests}
+use borrow.Author.Tests.{eqb-false}
 use Rattle.events.specs.declared.event.Event.{Event}
 use Rattle.events.specs.Refusal.{fault_in}
 use Rattle.sd2068.specs.declared.clock.Clock.{Clock}
@@ -22,10 +18,10 @@ module _ (e : Event) (good : fault_in e ≡ 0) (five : e.kind ≡ 5) where
   waited_state c = ap (λ (r : Answered). r.clock) (good_taken e good c) ∙ ap (λ (k : ℕ). (event_of c k e.byte e.count).clock) five
 
   pub waited_pulses : pulses_by e ≡ e.count
-  waited_pulses = ap₂ (λ (b : Bool) (f : Bool). cond b (cond f e.count 0) 0) (eq-eqb (fault_in e) 0 good) (eq-eqb e.kind 5 five)
+  waited_pulses = grind (arith, nat_tests)
 
   pub waited_read : read_by e ≡ false
-  waited_read = simp (eq-eqb (fault_in e) 0 good, ne_eqb e.kind 3 (λ n. omega arith), ne_eqb e.kind 4 (λ n. omega arith))
+  waited_read = grind (arith, nat_tests)
 
 -- the events qs, with pulses, refused events and unheard ones among them
 pub data Spaced (unheard : Event → Bool) : List Event → List Event → Type 0 where

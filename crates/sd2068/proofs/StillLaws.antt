@@ -1,13 +1,7 @@
 -- In a transfer that writes nothing stands still but refused events and reads, in one that reads nothing but refused events and a master's bytes. Assumes nothing.
-use mathlib.Core.Path.{◌≡◌, refl, sym, ap, ap₂, subst, ◌∙◌}
-use mathlib.Core.Bool.{Bool, true, false, cond, ◌&&◌, true≢false}
-use mathlib.Core.Logic.{◌⊎◌, inl, inr, ◌↔◌}
-use Prim.Native.Nat.{ℕ, zero, suc, ◌+◌, ◌≤◌, ◌<◌}
+use Rattle.std.proofs.Common.{◌≡◌, refl, sym, ap, subst, ◌∙◌, Bool, true, false, true≢false, ◌⊎◌, inl, inr, ◌↔◌, ℕ, zero, suc, ◌+◌, ◌≤◌, ◌<◌, add-zero, arith, ltb, cond, eqb, ◌&&◌}
+use Rattle.std.proofs.lemmas.Bool.Decides.{nat_tests}
 use native.Mathlib.Decide.{ℕ_discrete}
-use native.Mathlib.Nat.{add-zero}
-use native.Mathlib.Omega.{arith}
-use lib.Dec.{eqb, ltb}
-use borrow.Author.Tests.{eq-eqb, ne_eqb, ltb-false}
 use Rattle.fields.proofs.Picked.{picked}
 use Rattle.calendar.specs.Repeat.{times}
 use Rattle.bus.specs.declared.phase.Mode.{Mode}
@@ -16,7 +10,7 @@ use Rattle.bus.specs.declared.phase.Transfer.{Transfer}
 use Rattle.bus.specs.declared.phase.Phase.{Phase}
 use Rattle.bus.specs.declared.phase.Phase.TheVariants.{Closed, Open}
 use Rattle.bus.specs.declared.phase.Bus.{Bus}
-use Rattle.bus.specs.Phase.{started_in, older_in, older_of}
+use Rattle.bus.specs.Phase.{next_of, started_in, older_in, older_of}
 use Rattle.bus.proofs.UnheardLaws.{at}
 use Rattle.events.specs.declared.event.Event.{Event}
 use Rattle.events.specs.Refusal.{fault_of, fault_in}
@@ -62,14 +56,12 @@ as_old_many a (suc n) b h =
     subst (λ (k : ℕ). AsOld k (older_of x 1).phase) sum (as_old (a + n) x.pointer x.phase (as_old_many a n b h))
 
 -- the pointer never stays
-steps : (p : ℕ) (b : Bool) → ltb p 0x1F ≡ b → cond b (p + 1) 0x00 ≡ p → ⊥
-steps p true l e = omega arith
-steps p false l e = let high = ltb-false p 0x1F l in omega arith
+steps : (p : ℕ) → next_of p ≡ p → ⊥
+steps p e = grind (arith, nat_tests)
 
 -- pulses that are not refused are some
 no_pulse : (x : Bool) → cond {A = ℕ} (x && false) 0 3 ≡ 0 → ⊥
-no_pulse true e = omega arith
-no_pulse false e = omega arith
+no_pulse x e = grind arith
 
 counted : (b n : ℕ) → fault_of 5 b n ≡ 0 → 0 < n
 counted b zero good = absurd (no_pulse (eqb b 0) good)
@@ -125,8 +117,7 @@ module _ (c : Clock) (e : Event) where
   refused_or f stays = elim (ℕ_discrete (fault_in e) 0) [ yes good ↦ inr (f stays good) | no bad ↦ inl bad ]
 
   three_or_four : fault_in e ≡ 0 → (e.kind ≡ 3) ⊎ (e.kind ≡ 4) → read_by e ≡ true
-  three_or_four good (inl three) = simp (eq-eqb (fault_in e) 0 good, eq-eqb e.kind 3 three)
-  three_or_four good (inr four) = simp (eq-eqb (fault_in e) 0 good, ne_eqb e.kind 3 (λ x. omega arith), eq-eqb e.kind 4 four)
+  three_or_four good kind = grind (arith, nat_tests)
 
   -- in a transfer that writes
   module _ (t : Transfer) (writes : c.bus.phase ≡ Open Writing t) where
@@ -139,7 +130,7 @@ module _ (c : Clock) (e : Event) where
     data_moves : (event_of c 2 e.byte e.count).clock ≡ c → ⊥
     unfolding event_of
     data_moves s =
-        steps p (ltb p 0x1F) refl (sym (ap (λ (r : Answered). r.clock.bus.pointer) (hears_data c p t e.byte there)) ∙ ap (λ (d : Clock). d.bus.pointer) s)
+        steps p (sym (ap (λ (r : Answered). r.clock.bus.pointer) (hears_data c p t e.byte there)) ∙ ap (λ (d : Clock). d.bus.pointer) s)
 
     stays_read : Stays → fault_in e ≡ 0 → read_by e ≡ true
     stays_read stays good =
@@ -164,7 +155,7 @@ module _ (c : Clock) (e : Event) where
 
     read_moves : (ack : Bool) → (read_of c ack).clock ≡ c → ⊥
     read_moves ack s =
-        steps q (ltb q 0x1F) refl (sym (ap (λ (r : Answered). r.clock.bus.pointer) (sends c q t ack here)) ∙ ap (λ (d : Clock). d.bus.pointer) s)
+        steps q (sym (ap (λ (r : Answered). r.clock.bus.pointer) (sends c q t ack here)) ∙ ap (λ (d : Clock). d.bus.pointer) s)
 
     stays_byte : Stays → fault_in e ≡ 0 → byte_by e ≡ true
     unfolding event_of
@@ -172,7 +163,7 @@ module _ (c : Clock) (e : Event) where
         let two : e.kind ≡ 2 =
         still_kind c q Reading t here e.byte e.count refl (λ (k : ℕ). k ≡ 2) (λ s. refl) (λ s. absurd (read_moves true s)) (λ s. absurd (read_moves false s))
         e.kind good (by_kind good stays) in
-        ap₂ (λ (x : Bool) (y : Bool). x && y) (eq-eqb (fault_in e) 0 good) (eq-eqb e.kind 2 two)
+        grind (arith, nat_tests)
 
     pub still_reading : Stays ↔ ((fault_in e ≡ 0 → ⊥) ⊎ (byte_by e ≡ true))
     still_reading = (refused_or stays_byte, back)

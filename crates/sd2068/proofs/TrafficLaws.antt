@@ -1,21 +1,13 @@
 -- Traffic moves the hand by its pulses alone: a write elsewhere, or one that the lock keeps out, leaves it. Assumes nothing.
-use mathlib.Core.Path.{◌≡◌, refl, sym, ap, ◌∙◌}
-use mathlib.Core.Bool.{Bool, true, false, cond, ◌&&◌}
-use mathlib.Core.List.{List}
-use mathlib.Core.Logic.{◌⊎◌, inl, inr}
-use Prim.Native.Nat.{ℕ, ◌<◌}
+use Rattle.std.proofs.Common.{◌≡◌, refl, sym, ap, ◌∙◌, Bool, true, false, cond, List, ◌⊎◌, inl, inr, ℕ, ◌<◌, arith, eqb, ltb, eq-eqb}
 use native.Mathlib.Decide.{ℕ_discrete, dec_lt}
-use native.Mathlib.Omega.{arith}
-use lib.Dec.{eqb, ltb}
-use borrow.Author.Tests.{eq-eqb}
-use Rattle.fields.proofs.FieldLaws.{and_left, and_right}
 use Rattle.fields.proofs.Picked.{picked}
 use Rattle.calendar.specs.Repeat.{times}
 use Rattle.hand.specs.Hand as hand
 use Rattle.hand.specs.Hand.{ticked_of}
 use Rattle.hand.proofs.SpanLaws.{times_add}
 use Rattle.hand.proofs.StoredLaws.{hand_kept}
-use Rattle.control.specs.Lock.{open_of, written_of}
+use Rattle.control.specs.Lock.{open_of}
 use Rattle.bus.specs.declared.phase.Mode.TheVariants.{Address, Pointer, Writing, Reading, Deaf}
 use Rattle.bus.specs.declared.phase.Transfer.{Transfer}
 use Rattle.bus.specs.declared.phase.Phase.{Phase}
@@ -36,18 +28,11 @@ use Rattle.sd2068.proofs.KindLaws.{each_kind, small_kind, refused_state, refused
 
 -- the lock is open by its three bits
 pub open_unlocked : (c : Clock) → open_of c.lock ≡ true → Unlocked c
-open_unlocked c o =
-    let l = c.lock in
-    let two = and_left (l.wrtc1 && l.wrtc2) l.wrtc3 o in
-    record {
-      wrtc1 = and_left l.wrtc1 l.wrtc2 two;
-      wrtc2 = and_right l.wrtc1 l.wrtc2 two;
-      wrtc3 = and_right (l.wrtc1 && l.wrtc2) l.wrtc3 o;
-    }
+open_unlocked c o = record { wrtc1 = grind arith; wrtc2 = grind arith; wrtc3 = grind arith }
 
 -- a byte that is stored finds it open
 unlocked : (c : Clock) (a b : ℕ) → stores_of c a b ≡ true → Unlocked c
-unlocked c a b e = open_unlocked c (and_left (open_of c.lock) (open_of (written_of c.lock a b)) e)
+unlocked c a b e = open_unlocked c (grind arith)
 
 -- a byte written at a that is neither the time's nor the trim's, or that finds the lock closed
 module _ (c : Clock) (a b : ℕ) (spared : Unlocked c → (a < 0x07) ⊎ (a ≡ 0x12) → ⊥) where

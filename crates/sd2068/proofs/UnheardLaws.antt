@@ -1,11 +1,6 @@
 -- Which events change nothing in an open transfer: refused ones, reads where the chip does not read, and a master's bytes where it does. Assumes nothing.
-use mathlib.Core.Path.{◌≡◌, refl, sym, ap, ◌∙◌}
-use mathlib.Core.Bool.{Bool, true, false, ◌||◌}
-use Prim.Native.Nat.{ℕ}
-use native.Mathlib.Omega.{arith}
-use lib.Dec.{eqb}
-use borrow.Author.Tests.{eqb-true, ne_eqb}
-use Rattle.fields.proofs.FieldLaws.{and_left, and_right}
+use Rattle.std.proofs.Common.{◌≡◌, refl, sym, ap, ◌∙◌, Bool, true, false, ◌||◌, ℕ, arith, eqb, eqb-true}
+use Rattle.std.proofs.lemmas.Bool.Decides.{nat_tests}
 use Rattle.bus.specs.declared.phase.Mode.{Mode}
 use Rattle.bus.specs.declared.phase.Mode.TheVariants.{Reading}
 use Rattle.bus.specs.declared.phase.Transfer.{Transfer}
@@ -46,19 +41,15 @@ module _ (c : Clock) (p : ℕ) (t : Transfer) (e : Event) where
 
   pub read_unheard : (m : Mode) → sends m ≡ false → c.bus ≡ at p m t → read_by e ≡ true → (taken_of c e).clock ≡ c
   read_unheard m quiet at r =
-      read_by_lem (eqb e.kind 3) refl m quiet at (eqb-true (fault_in e) 0 (and_left (eqb (fault_in e) 0) (eqb e.kind 3 || eqb e.kind 4) r))
-      (and_right (eqb (fault_in e) 0) (eqb e.kind 3 || eqb e.kind 4) r)
+      read_by_lem (eqb e.kind 3) refl m quiet at (grind (arith, nat_tests)) (grind (arith, nat_tests))
 
   pub byte_unheard : c.bus ≡ at p Reading t → byte_by e ≡ true → (taken_of c e).clock ≡ c
   unfolding event_of
   byte_unheard at r =
-      let good = eqb-true (fault_in e) 0 (and_left (eqb (fault_in e) 0) (eqb e.kind 2) r) in
-      let two = eqb-true e.kind 2 (and_right (eqb (fault_in e) 0) (eqb e.kind 2) r) in
+      let good : fault_in e ≡ 0 = grind (arith, nat_tests) in
+      let two : e.kind ≡ 2 = grind (arith, nat_tests) in
       ap (λ (x : Answered). x.clock) (good_taken e good c ∙ ap (λ (n : ℕ). event_of c n e.byte e.count) two) ∙ unheard c p t e.byte at
 
 -- a master's byte is no read
 pub no_read : (e : Event) → byte_by e ≡ true → read_by e ≡ false
-no_read e r =
-    let good = and_left (eqb (fault_in e) 0) (eqb e.kind 2) r in
-    let two = eqb-true e.kind 2 (and_right (eqb (fault_in e) 0) (eqb e.kind 2) r) in
-    simp (good, ne_eqb e.kind 3 (λ n. omega arith), ne_eqb e.kind 4 (λ n. omega arith))
+no_read e r = grind (arith, nat_tests)

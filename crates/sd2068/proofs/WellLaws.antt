@@ -1,13 +1,6 @@
 -- Every event keeps a well-formed state well formed, so after a good start no step is refused with 1. Assumes nothing.
-use mathlib.Core.Path.{◌≡◌, refl, sym}
-use mathlib.Core.Bool.{Bool, true, false, cond, ◌&&◌, true≢false}
-use mathlib.Core.List.{List, [], ◌∷◌}
-use Prim.Native.Nat.{ℕ, zero, suc, ◌≤◌}
-use native.Mathlib.Omega.{arith}
-use lib.Dec.{eqb, ltb}
-use lib.ListN.{length}
-use borrow.Author.Tests.{leb-true, le-leb}
-use Rattle.fields.proofs.FieldLaws.{and_left, and_right}
+use Rattle.std.proofs.Common.{◌≡◌, refl, Bool, true, false, cond, ◌&&◌, List, [], ◌∷◌, ℕ, zero, suc, ◌≤◌, arith, eqb, ltb, length, le-leb, Option, Some, None}
+use Rattle.std.proofs.lemmas.Bool.Decides.{nat_tests}
 use Rattle.fields.proofs.Picked.{picked}
 use Rattle.calendar.specs.declared.time.Time.{Time}
 use Rattle.calendar.specs.Repeat.{times}
@@ -25,10 +18,7 @@ use Rattle.control.specs.Control as control
 use Rattle.control.proofs.WellLaws as control_laws
 use Rattle.bus.specs.declared.phase.Bus.{Bus}
 use Rattle.bus.specs.declared.bytes.Effect.{Effect}
-use Rattle.bus.specs.declared.bytes.Effect.TheVariants.{None, Latch, Write}
-use Rattle.bus.specs.declared.reads.Sent.{Sent}
-use Rattle.bus.specs.declared.reads.Sent.TheVariants.{Nothing, Register}
-use Rattle.bus.specs.Phase as bus
+use Rattle.bus.specs.declared.bytes.Effect.TheVariants as effect
 use Rattle.bus.specs.Bytes.{heard_of}
 use Rattle.bus.specs.Reads as reads
 use Rattle.bus.proofs.WellLaws as bus_laws
@@ -42,7 +32,7 @@ use Rattle.sd2068.specs.Power.{powered_of, lost_of, start_time, start_ram, start
 use Rattle.sd2068.specs.Writing.{stores_of, write_of}
 use Rattle.sd2068.specs.Pulse.{pulse_of, pulses_of}
 use Rattle.sd2068.specs.Transfer.{started_of, stopped_of, effected_by, byte_of, renews_of, renewed_of, sent_by, read_of}
-use Rattle.sd2068.specs.WellFormed.{latch_well, divider_well, well_formed_of}
+use Rattle.sd2068.specs.WellFormed.{latch_well, well_formed_of}
 use Rattle.sd2068.specs.Step.{event_of, refusal_of, told_of, step_of}
 use Rattle.sd2068.specs.Run.{step, after}
 
@@ -61,29 +51,15 @@ module _ (c : Clock) where
   pub parts : well_formed_of c ≡ true → Well c
   unfolding well_formed_of
   parts e =
-      let h = hand.well_of c.hand in
-      let a = alarm.well_of c.alarm in
-      let d = countdown.well_of c.countdown in
-      let l = lock.well_of c.lock in
-      let k = control.well_of c.control in
-      let s = latch_well c.latched in
-      let n = divider_well c.divider in
-      let b = bus.well_of c.bus in
-      let e7 = and_left (h && a && d && l && k && s && n) b e in
-      let e6 = and_left (h && a && d && l && k && s) n e7 in
-      let e5 = and_left (h && a && d && l && k) s e6 in
-      let e4 = and_left (h && a && d && l) k e5 in
-      let e3 = and_left (h && a && d) l e4 in
-      let e2 = and_left (h && a) d e3 in
       record {
-        hand = hand_laws.parts c.hand (and_left h a e2);
-        alarm = alarm_laws.parts c.alarm (and_right h a e2);
-        countdown = countdown_laws.parts c.countdown (and_right (h && a) d e3);
-        lock = and_right (h && a && d) l e4;
-        control = and_right (h && a && d && l) k e5;
-        latched = and_right (h && a && d && l && k) s e6;
-        divider = leb-true c.divider 524287 (and_right (h && a && d && l && k && s) n e7);
-        bus = bus_laws.parts c.bus (and_right (h && a && d && l && k && s && n) b e);
+        hand = hand_laws.parts c.hand (grind arith);
+        alarm = alarm_laws.parts c.alarm (grind arith);
+        countdown = countdown_laws.parts c.countdown (grind arith);
+        lock = grind arith;
+        control = grind arith;
+        latched = grind arith;
+        divider = grind (arith, nat_tests);
+        bus = bus_laws.parts c.bus (grind arith);
       }
 
   pub whole : Well c → well_formed_of c ≡ true
@@ -222,9 +198,9 @@ After e = Well e.clock
 
 module _ (c : Clock) (w : Well c) where
   effected_by_lem : (e : Effect) (b : ℕ) → Well (effected_by e c b)
-  effected_by_lem None b = w
-  effected_by_lem Latch b = moved c w (bytes_of c.hand.time) w.hand.time c.bus w.bus
-  effected_by_lem (Write a) b = write_well c w a b
+  effected_by_lem effect.None b = w
+  effected_by_lem effect.Latch b = moved c w (bytes_of c.hand.time) w.hand.time c.bus w.bus
+  effected_by_lem (effect.Write a) b = write_well c w a b
 
   pub byte_well : (b : ℕ) → Well (byte_of c b).clock
   unfolding byte_of
@@ -233,10 +209,10 @@ module _ (c : Clock) (w : Well c) where
       let v = effected_by_lem (heard_of c.bus b).effect b in
       moved x v x.latched v.latched (heard_of c.bus b).bus (bus_laws.heard_well w.bus b)
 
-  sent_by_lem : (s : Sent) (ack : Bool) → Well (sent_by s c ack).clock
+  sent_by_lem : (s : Option ℕ) (ack : Bool) → Well (sent_by s c ack).clock
   unfolding renewed_of
-  sent_by_lem Nothing ack = w
-  sent_by_lem (Register a) ack =
+  sent_by_lem None ack = w
+  sent_by_lem (Some a) ack =
       moved c w (cond (renews_of a) (bytes_of c.hand.time) c.latched) (latch_well_lem c w (renews_of a))
       (reads.read_of c.bus ack).bus (bus_laws.read_well w.bus ack)
 
@@ -276,10 +252,7 @@ steps_well c w (e ∷ es) = steps_well (step c e).state (step_well c w e.kind e.
 
 -- refusal 1 is for states that are not well formed
 first_only : (well kinds fields : Bool) → well ≡ true → ◌≡◌ {A = ℕ} (cond well (cond kinds (cond fields 0 3) 2) 1) 1 → ⊥
-first_only true true true e h = omega arith
-first_only true true false e h = omega arith
-first_only true false fields e h = omega arith
-first_only false kinds fields e h = absurd (true≢false (sym e))
+first_only well kinds fields e h = grind arith
 
 pub never_first : (s : List ℕ) (es : List Event) (kind byte count : ℕ) → (step_of (after step (power_on_of s).state es) kind byte count).refusal ≡ 1 → ⊥
 unfolding step_of refusal_of

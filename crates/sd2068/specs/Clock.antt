@@ -8,106 +8,22 @@ use Rattle.bus.specs.declared.phase.Bus.{Bus}
 use Rattle.sd2068.specs.declared.clock.Clock.{Clock}
 
 abbrev pub with_hand : Clock → Hand → Clock
-with_hand c h =
-    record {
-      hand = h;
-      alarm = c.alarm;
-      countdown = c.countdown;
-      lock = c.lock;
-      control = c.control;
-      rtcf = c.rtcf;
-      ram = c.ram;
-      latched = c.latched;
-      divider = c.divider;
-      bus = c.bus;
-    }
+with_hand c h = record c { hand = h }
 
 abbrev pub with_alarm : Clock → Alarm → Clock
-with_alarm c a =
-    record {
-      hand = c.hand;
-      alarm = a;
-      countdown = c.countdown;
-      lock = c.lock;
-      control = c.control;
-      rtcf = c.rtcf;
-      ram = c.ram;
-      latched = c.latched;
-      divider = c.divider;
-      bus = c.bus;
-    }
+with_alarm c a = record c { alarm = a }
 
 abbrev pub with_countdown : Clock → Countdown → Clock
-with_countdown c d =
-    record {
-      hand = c.hand;
-      alarm = c.alarm;
-      countdown = d;
-      lock = c.lock;
-      control = c.control;
-      rtcf = c.rtcf;
-      ram = c.ram;
-      latched = c.latched;
-      divider = c.divider;
-      bus = c.bus;
-    }
+with_countdown c d = record c { countdown = d }
 
 abbrev pub with_lock : Clock → Lock → Clock
-with_lock c l =
-    record {
-      hand = c.hand;
-      alarm = c.alarm;
-      countdown = c.countdown;
-      lock = l;
-      control = c.control;
-      rtcf = c.rtcf;
-      ram = c.ram;
-      latched = c.latched;
-      divider = c.divider;
-      bus = c.bus;
-    }
+with_lock c l = record c { lock = l }
 
 abbrev pub with_latched : Clock → List ℕ → Clock
-with_latched c bytes =
-    record {
-      hand = c.hand;
-      alarm = c.alarm;
-      countdown = c.countdown;
-      lock = c.lock;
-      control = c.control;
-      rtcf = c.rtcf;
-      ram = c.ram;
-      latched = bytes;
-      divider = c.divider;
-      bus = c.bus;
-    }
+with_latched c bytes = record c { latched = bytes }
 
 abbrev pub with_divider : Clock → ℕ → Clock
-with_divider c n =
-    record {
-      hand = c.hand;
-      alarm = c.alarm;
-      countdown = c.countdown;
-      lock = c.lock;
-      control = c.control;
-      rtcf = c.rtcf;
-      ram = c.ram;
-      latched = c.latched;
-      divider = n;
-      bus = c.bus;
-    }
+with_divider c n = record c { divider = n }
 
 abbrev pub with_bus : Clock → Bus → Clock
-with_bus c b =
-    record {
-      hand = c.hand;
-      alarm = c.alarm;
-      countdown = c.countdown;
-      lock = c.lock;
-      control = c.control;
-      rtcf = c.rtcf;
-      ram = c.ram;
-      latched = c.latched;
-      divider = c.divider;
-      bus = b;
-    }
+with_bus c b = record c { bus = b }

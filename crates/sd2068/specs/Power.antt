@@ -1,6 +1,7 @@
 -- Power-on and power loss. (rules 2.9 to 2.11 and 8.4)
 use Rattle.std.specs.Prelude.{true, false, cond, List, [], ◌∷◌, ℕ, eqb, length, get_or, replicate}
 use Rattle.calendar.specs.declared.time.Time.{Time}
+use Rattle.calendar.specs.Bytes.{time_of}
 use Rattle.alarm.specs.declared.alarm.Alarm.{Alarm}
 use Rattle.countdown.specs.declared.Countdown.{Countdown}
 use Rattle.control.specs.declared.control.Control.{Control}
@@ -43,16 +44,7 @@ lost_of c = powered_of c.hand.time c.ram
 
 -- the 19 start bytes: the time, then the RAM
 abbrev pub start_time : List ℕ → Time
-start_time s =
-    record {
-      seconds = get_or s 0 0;
-      minutes = get_or s 1 0;
-      hours = get_or s 2 0;
-      weekday = get_or s 3 0;
-      day = get_or s 4 0;
-      month = get_or s 5 0;
-      year = get_or s 6 0;
-    }
+start_time s = time_of s
 
 abbrev pub start_ram : List ℕ → List ℕ
 start_ram s =

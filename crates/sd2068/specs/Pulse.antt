@@ -54,15 +54,10 @@ within_of c n = countdown.within_of c.countdown c.control.intde (tds_of c.contro
 -- n pulses that only count, at once
 unfoldable pub drifted_of : Clock → ℕ → Clock
 drifted_of c n =
-    record {
+    record c {
       hand = hand.drifted_of c.hand n;
       alarm = alarm.lessened_of c.alarm n;
       countdown = countdown.drifted_of c.countdown c.control.intde n;
-      lock = c.lock;
-      control = c.control;
-      rtcf = c.rtcf;
-      ram = c.ram;
-      latched = c.latched;
       divider = turned_by_of c.divider n;
       bus = older_of c.bus n;
     }

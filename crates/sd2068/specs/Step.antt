@@ -3,7 +3,7 @@ use Rattle.std.specs.Prelude.{true, false, cond, List, ℕ, eqb}
 use Rattle.control.specs.Pin.{letter_of}
 use Rattle.events.specs.declared.answer.Answer.TheVariants.{Quiet}
 use Rattle.events.specs.Answer.{text_of}
-use Rattle.events.specs.Refusal.{number_of, fault_of}
+use Rattle.events.specs.Refusal.{option_number, fault_of}
 use Rattle.sd2068.specs.declared.clock.Clock.{Clock}
 use Rattle.sd2068.specs.declared.answers.Answered.{Answered}
 use Rattle.sd2068.specs.declared.answers.Stepped.{Stepped}
@@ -51,7 +51,7 @@ step_of c kind byte count =
 
 -- what the answers of the two entries say
 abbrev pub stepped : Stepped → Told
-stepped r = record { refusal = number_of r.refusal; state = r.clock; answer = text_of r.answer; pin = letter_of r.pin }
+stepped r = record { refusal = option_number r.refusal; state = r.clock; answer = text_of r.answer; pin = letter_of r.pin }
 
 abbrev pub started : Started → Power
-started r = record { refusal = number_of r.refusal; state = r.clock }
+started r = record { refusal = option_number r.refusal; state = r.clock }

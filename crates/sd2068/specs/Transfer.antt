@@ -1,10 +1,8 @@
 -- The events of the bus. (rules 6.2 to 6.11)
-use Rattle.std.specs.Prelude.{Bool, cond, ◌&&◌, not, ℕ, eqb}
+use Rattle.std.specs.Prelude.{Bool, cond, ◌&&◌, not, ℕ, eqb, Option, Some, None}
 use Rattle.registers.specs.Seven.{bytes_of}
 use Rattle.bus.specs.declared.bytes.Effect.{Effect}
 use Rattle.bus.specs.declared.bytes.Effect.TheVariants as effect
-use Rattle.bus.specs.declared.reads.Sent.{Sent}
-use Rattle.bus.specs.declared.reads.Sent.TheVariants.{Nothing, Register}
 use Rattle.bus.specs.Phase as phase
 use Rattle.bus.specs.Phase.{next_of, closed_bus, marked_of}
 use Rattle.bus.specs.Bytes.{heard_of}
@@ -12,8 +10,8 @@ use Rattle.bus.specs.Reads as reads
 use Rattle.alarm.specs.declared.alarm.Alarm.{Alarm}
 use Rattle.countdown.specs.declared.Countdown.{Countdown}
 use Rattle.sd2068.specs.declared.clock.Clock.{Clock}
-use Rattle.events.specs.declared.answer.Answer.{Answer}
-use Rattle.events.specs.declared.answer.Answer.TheVariants.{Ack, Nak, Byte}
+use Rattle.events.specs.declared.answer.Answer.TheVariants.{Byte}
+pub use Rattle.events.specs.Answer.{acknowledged}
 use Rattle.sd2068.specs.declared.answers.Answered.{Answered}
 use Rattle.sd2068.specs.Controls.{arst_of}
 use Rattle.sd2068.specs.Clock.{with_latched, with_bus}
@@ -29,34 +27,23 @@ abbrev pub clears_of : Clock → Bool
 clears_of c = arst_of c.control.ctr3 && marked_of c.bus
 
 abbrev pub alarm_kept : Bool → Alarm → Alarm
-alarm_kept keep a = record { at = a.at; enable = a.enable; flag = keep && a.flag; pulse = a.pulse }
+alarm_kept keep a = record a { flag = keep && a.flag }
 
 abbrev pub countdown_kept : Bool → Countdown → Countdown
-countdown_kept keep d =
-    record { count = d.count; reload = d.reload; prescaler = d.prescaler; flag = keep && d.flag; pulse = d.pulse }
+countdown_kept keep d = record d { flag = keep && d.flag }
 
 -- STOP leaves a closed bus
 unfoldable pub stopped_of : Clock → Clock
 stopped_of c =
-    record {
-      hand = c.hand;
+    record c {
       alarm = alarm_kept (not (clears_of c)) c.alarm;
       countdown = countdown_kept (not (clears_of c)) c.countdown;
-      lock = c.lock;
-      control = c.control;
-      rtcf = c.rtcf;
-      ram = c.ram;
-      latched = c.latched;
-      divider = c.divider;
       bus = closed_bus;
     }
 
 -- the seven bytes of the time, latched
 abbrev pub latched_of : Clock → Clock
 latched_of c = with_latched c (bytes_of c.hand.time)
-
-abbrev pub acknowledged : Bool → Answer
-acknowledged ack = cond ack Ack Nak
 
 -- what a byte does beside the bus
 abbrev pub effected_by : Effect → Clock → ℕ → Clock
@@ -80,9 +67,9 @@ unfoldable pub renewed_of : Clock → ℕ → Clock
 renewed_of c a = with_latched c (cond (renews_of a) (bytes_of c.hand.time) c.latched)
 
 -- a read: the byte at the pointer, and then what moves; FFh and no change where none is sent
-abbrev pub sent_by : Sent → Clock → Bool → Answered
-sent_by Nothing c ack = record { clock = c; answer = Byte 0xFF }
-sent_by (Register a) c ack =
+abbrev pub sent_by : Option ℕ → Clock → Bool → Answered
+sent_by None c ack = record { clock = c; answer = Byte 0xFF }
+sent_by (Some a) c ack =
     record { clock = with_bus (renewed_of c a) (reads.read_of c.bus ack).bus; answer = Byte (shown_of c a) }
 
 unfoldable pub read_of : Clock → Bool → Answered

@@ -18,17 +18,13 @@ stores_of c a b = open_of c.lock && open_of (written_of c.lock a b)
 -- the lock bits go by the byte alone; each other group takes it if it is stored
 abbrev pub written_by : Bool → Clock → ℕ → ℕ → Clock
 written_by stores c a b =
-    record {
+    record c {
       hand = cond stores (hand.stored_of c.hand a b) c.hand;
       alarm = cond stores (alarm.stored_of c.alarm a b) c.alarm;
       countdown = cond stores (countdown.stored_of c.countdown a b) c.countdown;
       lock = written_of c.lock a b;
       control = cond stores (control.stored_of c.control a b) c.control;
-      rtcf = c.rtcf;
       ram = cond stores (ram_stored_of c.ram a b) c.ram;
-      latched = c.latched;
-      divider = c.divider;
-      bus = c.bus;
     }
 
 unfoldable pub write_of : Clock → ℕ → ℕ → Clock

@@ -10,18 +10,18 @@ pub struct Answered {
     pub answer: Answer,
 }
 
-// What a step hands back.
+// What a step hands back: `step_of` tells state, answer and pin beside a refusal too.
 #[derive(Clone, Copy)]
 pub struct Stepped {
-    pub refusal: Refusal,
+    pub refusal: Option<Refusal>,
     pub clock: Clock,
     pub answer: Answer,
     pub pin: Level,
 }
 
-// What a power-on hands back.
+// What a power-on hands back: `power_on_of` tells a state beside a refusal too.
 #[derive(Clone, Copy)]
 pub struct Started {
-    pub refusal: Refusal,
+    pub refusal: Option<Refusal>,
     pub clock: Clock,
 }

@@ -66,12 +66,12 @@ impl Clock {
     }
 
     // One pulse, in this order. (rule 4.5)
+    #[tactic(auto, unfolding(crate::specs::Pulse::pulse_of))]
     fn pulse(self) -> Clock
         ensures { result ≡ pulse_of self }
     {
         let ready = self.aged().divided().pin_pulsed().counted();
-        let hand = ready.hand;
-        let before = hand.time;
+        let before = ready.hand.time;
         ready.advanced().rung(before)
     }
 
@@ -85,6 +85,7 @@ impl Clock {
     }
 
     // n pulses that only count, at once. (rule 4.7)
+    #[tactic(auto, unfolding(crate::specs::Pulse::drifted_of))]
     fn drifted(mut self, n: u32) -> Clock
         ensures { result ≡ drifted_of self n }
     {
@@ -96,7 +97,8 @@ impl Clock {
         self
     }
 
-    // n pulses: as many as only count at once, then the next by its stages. (rule 4.7)
+    // n pulses: as many as only count at once, then the next by its stages, so that no `for` goes over them. (rule 4.7)
+    #[tactic(auto, using(crate::proofs::DriftLaws::within_asked, crate::proofs::DriftLaws::drifts_first), unfolding(calendar::specs::Repeat::times))]
     pub(crate) fn pulses(self, n: u16) -> Clock
         ensures { result ≡ pulses_of self n }
     {

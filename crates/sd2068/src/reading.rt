@@ -8,6 +8,7 @@ use registers::byte_at;
 
 impl Clock {
     // Any register as it stands; an address over 1Fh has none and shows FFh. (rule 2.12)
+    #[tactic(auto, unfolding(crate::specs::Reading::register_of))]
     pub fn register(self, a: u8) -> u8
         ensures { result ≡ register_of self a }
     {
@@ -15,16 +16,13 @@ impl Clock {
             0x00..=0x06 => byte_at(self.hand.time, a),
             0x07..=0x0D => byte_at(self.alarm.at, a - 0x07),
             0x0E..=0x13 => self.control_at(a),
-            0x14..=0x1F => {
-                let ram = self.ram;
-                let i = (a - 0x14) as usize;
-                ram[i]
-            }
+            0x14..=0x1F => self.ram[(a - 0x14) as usize],
             _ => 0xFF,
         }
     }
 
     // 0Eh to 13h. (rules 2.3 to 2.6)
+    #[tactic(auto, unfolding(crate::specs::Reading::control_at_of))]
     fn control_at(self, a: u8) -> u8
         ensures { result ≡ control_at_of self a }
     {
@@ -39,28 +37,24 @@ impl Clock {
     }
 
     // As a read on the bus sees it: the time comes from the latch. (rule 6.7)
+    #[tactic(auto, unfolding(crate::specs::Reading::shown_of))]
     pub(crate) fn shown(self, a: u8) -> u8
         ensures { result ≡ shown_of self a }
     {
         match a {
-            0x00..=0x06 => {
-                let latched = self.latched;
-                let i = a as usize;
-                latched[i]
-            }
+            0x00..=0x06 => self.latched[a as usize],
             _ => self.register(a),
         }
     }
 
     // All 32 as they stand. (rule 2.12)
+    #[tactic(auto, using(std::proofs::lemmas::List::take_more_set, std::proofs::lemmas::List::take_all), unfolding(crate::specs::Reading::registers_to))]
     pub fn registers(self) -> [u8; 32]
         ensures { result ≡ registers_of self }
     {
-        let mut all = [0u8; 32];
-        let mut i = 0;
-        while i < 32 {
-            all[i] = self.register(i as u8);
-            i = i + 1;
+        let mut all = [0; 32];
+        for (a, byte) in all.iter_mut().enumerate() {
+            *byte = self.register(a as u8);
         }
         all
     }

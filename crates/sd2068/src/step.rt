@@ -1,11 +1,12 @@
 // The single step. (rules 8.1 and 8.3)
-ghost use Rattle.std.specs.Prelude.{◌≡◌};
-ghost use Rattle.events.specs.Refusal.{number_of};
-ghost use Rattle.sd2068.specs.Step.{quiet_of, event_of, told_of, stepped, step_of};
+ghost use Rattle.std.specs.Prelude.{◌≡◌, IfOk};
+ghost use Rattle.events.specs.Kind as kinds;
+ghost use Rattle.events.specs.Refusal.{option_number, result_number};
+ghost use Rattle.sd2068.specs.Step.{quiet_of, event_of, refusal_of, told_of, stepped, step_of};
 
 use crate::answers::{Answered, Stepped};
 use crate::clock::Clock;
-use events::{Answer, Refusal, fault};
+use events::{Answer, Event, Kind, Refusal};
 
 // An event that is not answered.
 fn quiet(clock: Clock) -> Answered
@@ -18,54 +19,54 @@ fn quiet(clock: Clock) -> Answered
 }
 
 impl Clock {
-    // An event of any kind up to 6. (rule 8.1)
-    fn event(self, kind: u8, byte: u8, count: u16) -> Answered
-        ensures { result ≡ event_of self kind byte count }
-    {
-        match kind {
-            0 => quiet(self.started()),
-            1 => quiet(self.stopped()),
-            2 => self.byte(byte),
-            3 => self.read(true),
-            4 => self.read(false),
-            5 => quiet(self.pulses(count)),
-            _ => quiet(self.lost()),
-        }
-    }
-
-    // Refused, the same state comes back. (rule 8.3)
-    fn refused(self, refusal: Refusal) -> Stepped
-        ensures { stepped result ≡ told_of (number_of refusal) (quiet_of self) }
-    {
-        told(refusal, quiet(self))
-    }
-
-    // Any event on any state. (rule 8.3)
-    pub fn step(self, kind: u8, byte: u8, count: u16) -> Stepped
-        ensures { stepped result ≡ step_of self kind byte count }
+    // What an event is, unless the state or the event itself is refused. (rule 8.3)
+    #[tactic(auto, unfolding(crate::specs::Step::refusal_of))]
+    fn admitted(self, event: Event) -> Result<Kind, Refusal>
+        ensures refusal { result_number result ≡ refusal_of self event.kind event.byte event.count }
+        ensures kind { IfOk result (λ k. kinds.event_of k ≡ event) }
     {
         if !self.well_formed() {
-            return self.refused(Refusal::State);
+            return Err(Refusal::State);
         }
-        let refusal = fault(kind, byte, count);
-        if refusal.number() == 0 {
-            told(refusal, self.event(kind, byte, count))
-        } else {
-            self.refused(refusal)
+        Kind::try_from(event)
+    }
+
+    // What comes of an event. (rule 8.1)
+    #[tactic(auto, unfolding(crate::specs::Step::event_of))]
+    fn event(self, kind: Kind) -> Answered
+        ensures { let e = kinds.event_of kind in result ≡ event_of self e.kind e.byte e.count }
+    {
+        match kind {
+            Kind::Start => quiet(self.started()),
+            Kind::Stop => quiet(self.stopped()),
+            Kind::Byte(b) => self.byte(b),
+            Kind::ReadAck => self.read(true),
+            Kind::ReadNak => self.read(false),
+            Kind::Pulses(n) => quiet(self.pulses(n)),
+            Kind::PowerLoss => quiet(self.lost()),
+        }
+    }
+
+    // Any event on any state: refused, the same state comes back. (rule 8.3)
+    #[tactic(auto, unfolding(crate::specs::Step::step_of))]
+    pub fn step(self, event: Event) -> Stepped
+        ensures { stepped result ≡ step_of self event.kind event.byte event.count }
+    {
+        match self.admitted(event) {
+            Ok(kind) => told(None, self.event(kind)),
+            Err(refusal) => told(Some(refusal), quiet(self)),
         }
     }
 }
 
 // An event's answer with the pin that it leaves. (rule 8.1)
-fn told(refusal: Refusal, e: Answered) -> Stepped
-    ensures { stepped result ≡ told_of (number_of refusal) e }
+fn told(refusal: Option<Refusal>, e: Answered) -> Stepped
+    ensures { stepped result ≡ told_of (option_number refusal) e }
 {
-    let clock = e.clock;
-    let answer = e.answer;
     Stepped {
         refusal,
-        clock,
-        answer,
-        pin: clock.pin(),
+        clock: e.clock,
+        answer: e.answer,
+        pin: e.clock.pin(),
     }
 }

@@ -1,20 +1,12 @@
 // The events of the bus. (rules 6.2 to 6.11)
 ghost use Rattle.std.specs.Prelude.{◌≡◌};
-ghost use Rattle.sd2068.specs.Transfer.{started_of, clears_of, stopped_of, latched_of, acknowledged, effected_by, byte_of, renewed_of, read_of};
+ghost use Rattle.sd2068.specs.Transfer.{started_of, clears_of, stopped_of, latched_of, effected_by, byte_of, renewed_of, read_of};
 
 use crate::answers::Answered;
 use crate::clock::Clock;
 use crate::controls::arst;
-use bus::{Bus, Effect, Phase, Sent, next};
+use bus::{Bus, Effect, next};
 use events::Answer;
-use registers::bytes;
-
-// How a byte is acknowledged. (rules 6.3 to 6.6)
-fn acknowledge(ack: bool) -> Answer
-    ensures { result ≡ acknowledged ack }
-{
-    if ack { Answer::Ack } else { Answer::Nak }
-}
 
 impl Clock {
     // START. (rule 6.2)
@@ -33,21 +25,14 @@ impl Clock {
     }
 
     // STOP: under ARST a transfer that read 0Fh clears both flags. (rules 6.10 and 6.11)
+    #[tactic(auto, unfolding(crate::specs::Transfer::stopped_of))]
     pub(crate) fn stopped(mut self) -> Clock
         ensures { result ≡ stopped_of self }
     {
         let keep = !self.clears();
-        let mut alarm = self.alarm;
-        let mut countdown = self.countdown;
-        let bus = Bus {
-            pointer: 0x00,
-            phase: Phase::Closed,
-        };
-        alarm.flag = keep & alarm.flag;
-        countdown.flag = keep & countdown.flag;
-        self.alarm = alarm;
-        self.countdown = countdown;
-        self.bus = bus;
+        self.alarm.flag = keep & self.alarm.flag;
+        self.countdown.flag = keep & self.countdown.flag;
+        self.bus = Bus::default();
         self
     }
 
@@ -55,8 +40,7 @@ impl Clock {
     fn latch(mut self) -> Clock
         ensures { result ≡ latched_of self }
     {
-        let latched = bytes(self.hand.time);
-        self.latched = latched;
+        self.latched = self.hand.time.into();
         self
     }
 
@@ -72,21 +56,21 @@ impl Clock {
     }
 
     // A master's byte. (rules 6.3 to 6.6)
+    #[tactic(auto, unfolding(crate::specs::Transfer::byte_of))]
     pub(crate) fn byte(self, b: u8) -> Answered
         ensures { result ≡ byte_of self b }
     {
         let heard = self.bus.heard(b);
-        let effect = heard.effect;
-        let bus = heard.bus;
-        let mut clock = self.effected(effect, b);
-        clock.bus = bus;
+        let mut clock = self.effected(heard.effect, b);
+        clock.bus = heard.bus;
         Answered {
             clock,
-            answer: acknowledge(heard.ack),
+            answer: Answer::from(heard.ack),
         }
     }
 
     // A read at a whose pointer goes on to 00h latches anew. (rule 6.9)
+    #[tactic(auto, unfolding(crate::specs::Transfer::renewed_of))]
     fn renewed(self, a: u8) -> Clock
         ensures { result ≡ renewed_of self a }
     {
@@ -97,25 +81,22 @@ impl Clock {
     }
 
     // A read: the byte at the pointer, and then what moves. (rules 6.7 to 6.9)
+    #[tactic(auto, unfolding(crate::specs::Transfer::read_of))]
     pub(crate) fn read(self, ack: bool) -> Answered
         ensures { result ≡ read_of self ack }
     {
         let read = self.bus.read(ack);
-        let sent = read.sent;
-        match sent {
-            Sent::Nothing => Answered {
+        let Some(a) = read.sent else {
+            return Answered {
                 clock: self,
                 answer: Answer::Byte(0xFF),
-            },
-            Sent::Register(a) => {
-                let bus = read.bus;
-                let mut clock = self.renewed(a);
-                clock.bus = bus;
-                Answered {
-                    clock,
-                    answer: Answer::Byte(self.shown(a)),
-                }
-            }
+            };
+        };
+        let mut clock = self.renewed(a);
+        clock.bus = read.bus;
+        Answered {
+            clock,
+            answer: Answer::Byte(self.shown(a)),
         }
     }
 }

@@ -5,15 +5,12 @@ ghost use Rattle.sd2068.specs.Writing.{ram_stored_of, stores_of, written_by, wri
 use crate::clock::Clock;
 
 // The RAM after a byte stored at register a. (rule 2.7)
+#[tactic(auto, unfolding(crate::specs::Writing::ram_stored_of))]
 fn ram_stored(mut ram: [u8; 12], a: u8, b: u8) -> [u8; 12]
     ensures { result ≡ ram_stored_of ram a b }
 {
     match a {
-        0x00..=0x13 => {}
-        0x14..=0x1F => {
-            let i = (a - 0x14) as usize;
-            ram[i] = b;
-        }
+        0x14..=0x1F => ram[(a - 0x14) as usize] = b,
         _ => {}
     }
     ram
@@ -30,15 +27,17 @@ impl Clock {
     }
 
     // A byte at register a: the lock bits go by it alone, the rest takes it if it is stored. (rule 7.2)
+    #[tactic(auto, unfolding(crate::specs::Writing::write_of))]
     pub(crate) fn write(self, a: u8, b: u8) -> Clock
         ensures { result ≡ write_of self a b }
     {
         if self.stores(a, b) {
             self.stored(a, b)
         } else {
-            let mut lost = self;
-            lost.lock = self.lock.written(a, b);
-            lost
+            Clock {
+                lock: self.lock.written(a, b),
+                ..self
+            }
         }
     }
 
@@ -51,9 +50,7 @@ impl Clock {
         self.countdown = self.countdown.stored(a, b);
         self.lock = self.lock.written(a, b);
         self.control = self.control.stored(a, b);
-        let ram = self.ram;
-        let ram = ram_stored(ram, a, b);
-        self.ram = ram;
+        self.ram = ram_stored(self.ram, a, b);
         self
     }
 }

@@ -22,7 +22,7 @@ pub extern "C" fn tallowreed_power_on(start: &[u8], state: &mut [u8]) -> u8
     sd2068_abi::tallowreed_power_on(start, state)
 }
 
-// One event. (rule 10.5)
+// One event, in the numbers that C has. (rule 10.5)
 #[unsafe(no_mangle)]
 pub extern "C" fn tallowreed_step(state: &mut [u8], kind: u8, byte: u8, count: u16) -> u32
     ensures { lent result state.new ≡ step_of state.old kind byte count }

@@ -1,8 +1,5 @@
 -- The worked example and a few refusals of files, as the definitions of `script` compute them. Assumes nothing.
-use mathlib.Core.Path.{◌≡◌, refl}
-use mathlib.Core.List.{List, [], ◌∷◌, ◌++◌}
-use Prim.Native.Nat.{ℕ}
-use lib.ListN.{replicate, drop}
+use Rattle.std.proofs.Common.{◌≡◌, refl, List, [], ◌∷◌, ◌++◌, ℕ, replicate, drop}
 use Rattle.registers.specs.Fixed.{kept_of, kept_time, kept_alarm, kept_control, clear_of, clear_time_of}
 use Rattle.hand.specs.Hand as hand
 use Rattle.alarm.specs.Alarm as alarm

@@ -1,64 +1,55 @@
 // The items of the input: scripts from power-on or from a state, and script files.
 use crate::files::from_file;
-use crate::input::read_full;
 use crate::lines::print_refusal;
 use crate::scripts::run_events;
+use input::read_array;
 use state_bytes::clock_of;
 use std::io;
 use std::io::Read;
+use std::ops::ControlFlow::{self, Break, Continue};
 
 // The most items of one input.
 const MOST: u32 = 1000000;
 
 // Items until the input ends.
 pub(crate) fn run_all(rt: &impl Print, input: &mut impl Read) -> io::Result<()> {
-    let mut left = MOST;
-    while 0 < left {
-        if !run_next(rt, input)? {
-            return Ok(());
+    for _ in 0..MOST {
+        if run_next(rt, input)?.is_break() {
+            break;
         }
-        left = left - 1;
     }
     Ok(())
 }
 
-// The next item, if there is one.
-fn run_next(rt: &impl Print, input: &mut impl Read) -> io::Result<bool> {
-    let mut first = [0u8; 1];
-    let got = read_full(input, &mut first)?;
-    if got < 1 {
-        return Ok(false);
-    }
-    let what = first[0];
-    match what {
+// The next item, by the number that the input has for it; a break where there is none, or not all of it.
+fn run_next(rt: &impl Print, input: &mut impl Read) -> io::Result<ControlFlow<()>> {
+    let Some(what) = read_array::<_, 1>(input)? else {
+        return Ok(Break(()));
+    };
+    match what[0] {
         0 => from_power_on(rt, input),
         1 => from_state(rt, input),
         2 => from_file(rt, input),
-        _ => Ok(false),
+        _ => Ok(Break(())),
     }
 }
 
 // Power-on; if it is refused, the state is that of 19 zero bytes. (rule 8.4)
-fn from_power_on(rt: &impl Print, input: &mut impl Read) -> io::Result<bool> {
-    let mut start = [0u8; 19];
-    let got = read_full(input, &mut start)?;
-    if got < 19 {
-        return Ok(false);
-    }
+fn from_power_on(rt: &impl Print, input: &mut impl Read) -> io::Result<ControlFlow<()>> {
+    let Some(start) = read_array::<_, 19>(input)? else {
+        return Ok(Break(()));
+    };
     let started = sd2068::power_on(&start);
-    let refusal = started.refusal;
-    print_refusal(rt, refusal)?;
+    print_refusal(rt, started.refusal, "\n")?;
     run_events(rt, input, started.clock)?;
-    Ok(true)
+    Ok(Continue(()))
 }
 
 // A state of any kind. (rule 8.2)
-fn from_state(rt: &impl Print, input: &mut impl Read) -> io::Result<bool> {
-    let mut bytes = [0u8; 61];
-    let got = read_full(input, &mut bytes)?;
-    if got < 61 {
-        return Ok(false);
-    }
+fn from_state(rt: &impl Print, input: &mut impl Read) -> io::Result<ControlFlow<()>> {
+    let Some(bytes) = read_array::<_, 61>(input)? else {
+        return Ok(Break(()));
+    };
     run_events(rt, input, clock_of(&bytes))?;
-    Ok(true)
+    Ok(Continue(()))
 }

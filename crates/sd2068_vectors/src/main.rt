@@ -2,14 +2,13 @@
 #![tactic(auto)]
 
 mod files;
-mod input;
 mod items;
 mod lines;
 mod scripts;
-mod words;
 
 use std::io;
 
+// Runtime and input go from call to call beside one another, since each is lent for a call alone.
 fn main(rt: HostRuntime) -> io::Result<()> {
     items::run_all(&rt, &mut rt.stdin())
 }

@@ -1,53 +1,40 @@
 // A script: a count of events, and the events one after the other. (rule 8.1)
-use crate::input::read_full;
 use crate::lines::{print_state, print_step};
-use crate::words::word;
+use events::{Event, Kind};
+use input::read_full;
 use sd2068::Clock;
 use std::io;
 use std::io::Read;
 
 // The state is shown after a STOP, after a power loss and at the end.
 pub(crate) fn run_events(rt: &impl Print, input: &mut impl Read, start: Clock) -> io::Result<()> {
+    // What the input has not got of a count or of an event is 0.
     let mut count = [0u8; 2];
     read_full(input, &mut count)?;
-    let mut ran = Ran {
-        clock: start,
-        shown: false,
-    };
-    for _ in 0..word(count[0], count[1]) {
-        ran = run_event(rt, input, ran.clock)?;
+    let (mut clock, mut shown) = (start, false);
+    for _ in 0..u16::from_le_bytes(count) {
+        (clock, shown) = run_event(rt, input, clock)?;
     }
-    if !ran.shown {
-        print_state(rt, ran.clock)?;
+    if !shown {
+        print_state(rt, clock)?;
     }
     Ok(())
 }
 
-// The state, and whether it was shown.
-#[derive(Clone, Copy)]
-struct Ran {
-    clock: Clock,
-    shown: bool,
-}
-
-fn run_event(rt: &impl Print, input: &mut impl Read, c: Clock) -> io::Result<Ran> {
-    let mut event = [0u8; 4];
-    read_full(input, &mut event)?;
-    let kind = event[0];
-    let r = c.step(kind, event[1], word(event[2], event[3]));
-    let clock = r.clock;
-    let shown = print_step(rt, r)? & shows(kind);
+// The state after the next event, and whether it was shown.
+fn run_event(rt: &impl Print, input: &mut impl Read, c: Clock) -> io::Result<(Clock, bool)> {
+    let mut bytes = [0u8; 4];
+    read_full(input, &mut bytes)?;
+    // As a script file has an event, which `script` reads for itself alone.
+    let [kind, byte, low, high] = bytes;
+    let count = u16::from_le_bytes([low, high]);
+    let event = Event { kind, byte, count };
+    let r = c.step(event);
+    print_step(rt, r)?;
+    let shown = r.refusal.is_none()
+        & matches!(Kind::try_from(event), Ok(Kind::Stop | Kind::PowerLoss));
     if shown {
-        print_state(rt, clock)?;
+        print_state(rt, r.clock)?;
     }
-    Ok(Ran { clock, shown })
-}
-
-// A STOP and a power loss.
-fn shows(kind: u8) -> bool {
-    match kind {
-        1 => true,
-        6 => true,
-        _ => false,
-    }
+    Ok((r.clock, shown))
 }

@@ -1,8 +1,7 @@
 pub mod WordLaws
+pub mod PlaceLaws
 pub mod PhaseLaws
 pub mod BitLaws
 pub mod RoundLaws
 pub mod RegisterLaws
-pub mod JudgedLaws
-pub mod PinLaws
 pub mod Settled

@@ -2,11 +2,9 @@
 use mathlib.Core.Path.{◌≡◌, refl, sym, ap, ◌∙◌}
 use mathlib.Core.Bool.{Bool, true}
 use mathlib.Core.List.{List, [], ◌∷◌}
-use Prim.Native.Nat.{ℕ, zero, suc, ◌+◌, ◌<◌}
-use native.Mathlib.Nat.{le_of_suc-le-suc, not-suc-le-zero}
+use Prim.Native.Nat.{ℕ, ◌<◌}
 use native.Mathlib.Omega.{arith}
-use lib.ListN.{length, get_or, drop, drop_of_length-le}
-use lib.Seq.{ext_get_or}
+use lib.ListN.{get_or}
 use borrow.Author.Tests.{eq-eqb}
 use Rattle.fields.proofs.FieldLaws.{and_left, and_right}
 use Rattle.control.specs.Lock.{ctr1_of, ctr2_of}
@@ -20,12 +18,14 @@ use Rattle.sd2068.specs.declared.clock.Clock.{Clock}
 use Rattle.sd2068.specs.Pin.{pin_of}
 use Rattle.sd2068.specs.WellFormed.{well_formed_of}
 use Rattle.sd2068.proofs.WellLaws.{Well, parts}
-use Rattle.sd2068.proofs.ListedLaws.{none, ◌also◌, ctr1_clear}
+use Rattle.sd2068.proofs.ListedLaws.{ctr1_clear}
 use Rattle.state_bytes.specs.Words.{word_of, low_of, second_of}
 use Rattle.state_bytes.specs.Phases.{age_in, phase_well}
 use Rattle.state_bytes.specs.Decoded.{ram_of, latched_of, clock_of, plain_of, is_state}
 use Rattle.state_bytes.specs.Encoded.{bytes_of}
 use Rattle.state_bytes.specs.Shapes.{Arrays, Bytes}
+use Rattle.state_bytes.specs.Places.{bytes_at}
+use Rattle.state_bytes.proofs.PlaceLaws.{whole}
 use Rattle.state_bytes.proofs.WordLaws.{word_back, long_back, low_word, second_word, low_long, second_long, third_long, high_long}
 use Rattle.state_bytes.proofs.PhaseLaws.{phase_back, phase_written, Again, phase_again}
 use Rattle.state_bytes.proofs.BitLaws.{ctr1_again, ctr2_again}
@@ -48,17 +48,11 @@ module _ (c : Clock) (a : Arrays c) (well : well_formed_of c ≡ true) where
 
   ram_back : ram_of (bytes_of c) ≡ c.ram
   unfolding bytes_of
-  ram_back =
-      ext_get_or 0 (ram_of (bytes_of c)) c.ram (sym a.ram)
-      (none (λ (i : ℕ). get_or (ram_of (bytes_of c)) i 0 ≡ get_or c.ram i 0)
-      also refl also refl also refl also refl also refl also refl also refl also refl also refl also refl also refl also refl).each
+  ram_back = sym (whole c.ram 12 a.ram)
 
   latched_back : latched_of (bytes_of c) ≡ c.latched
   unfolding bytes_of
-  latched_back =
-      ext_get_or 0 (latched_of (bytes_of c)) c.latched (sym a.latched)
-      (none (λ (i : ℕ). get_or (latched_of (bytes_of c)) i 0 ≡ get_or c.latched i 0)
-      also refl also refl also refl also refl also refl also refl also refl).each
+  latched_back = sym (whole c.latched 7 a.latched)
 
   -- a well-formed state comes back from its bytes
   pub encoded_back : clock_of (bytes_of c) ≡ c
@@ -160,25 +154,6 @@ pub pin_back : (c : Clock) → well_formed_of c ≡ true → pin_of (clock_of (b
 pin_back c w =
     ap (λ (l : List ℕ). pin_of (clock_of l)) (cut_bytes c) ∙ ap pin_of (encoded_back (cut c) (cut_arrays c) (cut_well c ∙ w)) ∙ cut_pin c
 
--- what is left from place k on begins with the byte at k
-head : (k : ℕ) (s : List ℕ) → k < length s → drop k s ≡ get_or s k 0 ∷ drop (suc k) s
-head zero [] h = absurd (not-suc-le-zero h)
-head zero (x ∷ xs) h = refl
-head (suc k) [] h = absurd (not-suc-le-zero h)
-head (suc k) (x ∷ xs) h = head k xs (le_of_suc-le-suc h)
-
--- the bytes of a list from place k on, n of them
-from : ℕ → ℕ → List ℕ → List ℕ
-from zero k s = []
-from (suc n) k s = get_or s k 0 ∷ from n (suc k) s
-
-all_from : (n k : ℕ) (s : List ℕ) → length s ≡ k + n → from n k s ≡ drop k s
-unfolding from
-all_from zero k s e = sym (drop_of_length-le s {i = k} (omega arith))
-all_from (suc n) k s e =
-    let less : k < length s = omega arith in
-    ap (λ (r : List ℕ). get_or s k 0 ∷ r) (all_from n (suc k) s (omega arith)) ∙ sym (head k s less)
-
 -- from bytes to their state and back
 module _ (s : List ℕ) (b : Bytes s) (e : is_state s ≡ true) where
   abbrev age : ℕ
@@ -201,13 +176,12 @@ module _ (s : List ℕ) (b : Bytes s) (e : is_state s ≡ true) where
   phase =
       phase_again (get_or s 42 0) age (get_or s 41 0) (and_right (clear_of 0x0F (get_or s 0x0F 0)) (phase_well (get_or s 41 0) (get_or s 42 0) age) decoded_plain)
 
-  spelled : from 61 0 s ≡ s
-  unfolding from
-  spelled = all_from 61 0 s b.long
+  spelled : bytes_at s 0 0 61 ≡ s
+  spelled = sym (whole s 61 b.long)
 
   -- bytes that are a state's come back from it
   pub decoded_again : bytes_of (clock_of s) ≡ s
-  unfolding bytes_of clock_of ctr1_of ctr2_of from
+  unfolding bytes_of clock_of ctr1_of ctr2_of
   decoded_again =
       (λ i.
       get_or s 0 0

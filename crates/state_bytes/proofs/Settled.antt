@@ -7,14 +7,6 @@ use Rattle.state_bytes.proofs.places.at.Kinds as at_kinds
 use Rattle.state_bytes.proofs.places.at.Reads as at_reads
 use Rattle.state_bytes.proofs.places.time_at.Kinds as time_at_kinds
 use Rattle.state_bytes.proofs.places.time_at.Reads as time_at_reads
-use Rattle.state_bytes.proofs.words.low.Kinds as low_kinds
-use Rattle.state_bytes.proofs.words.low.Reads as low_reads
-use Rattle.state_bytes.proofs.words.second.Kinds as second_kinds
-use Rattle.state_bytes.proofs.words.second.Reads as second_reads
-use Rattle.state_bytes.proofs.words.third.Kinds as third_kinds
-use Rattle.state_bytes.proofs.words.third.Reads as third_reads
-use Rattle.state_bytes.proofs.words.high.Kinds as high_kinds
-use Rattle.state_bytes.proofs.words.high.Reads as high_reads
 use Rattle.state_bytes.proofs.phases.number_in.Kinds as number_in_kinds
 use Rattle.state_bytes.proofs.phases.number_in.Reads as number_in_reads
 use Rattle.state_bytes.proofs.phases.mark_in.Kinds as mark_in_kinds
@@ -51,18 +43,6 @@ at_settles κs a e f x y = settled (λ z. z) (λ z. z) (λ z. refl)
 
 pub time_at_settles : Settles 1 time_at_kinds.ps time_at_kinds.r time_at_reads.Post
 time_at_settles κs a e f x y = settled (λ z. z) (λ z. z) (λ z. refl)
-
-pub low_settles : Settles 0 low_kinds.ps low_kinds.r low_reads.Post
-low_settles κs a e f x y = settled (λ z. z) (λ z. z) (λ z. refl)
-
-pub second_settles : Settles 0 second_kinds.ps second_kinds.r second_reads.Post
-second_settles κs a e f x y = settled (λ z. z) (λ z. z) (λ z. refl)
-
-pub third_settles : Settles 0 third_kinds.ps third_kinds.r third_reads.Post
-third_settles κs a e f x y = settled (λ z. z) (λ z. z) (λ z. refl)
-
-pub high_settles : Settles 0 high_kinds.ps high_kinds.r high_reads.Post
-high_settles κs a e f x y = settled (λ z. z) (λ z. z) (λ z. refl)
 
 pub number_in_settles : Settles 0 number_in_kinds.ps number_in_kinds.r number_in_reads.Post
 number_in_settles κs a e f x y = settled (λ z. z) (λ z. z) (λ z. refl)

@@ -1,7 +1,6 @@
 -- A number and its bytes are had back from each other. Assumes nothing.
-use mathlib.Core.Path.{◌≡◌}
-use Prim.Native.Nat.{ℕ, ◌<◌}
-use native.Mathlib.Omega.{arith}
+use Rattle.std.proofs.Common.{◌≡◌, ℕ, ◌<◌, ◌^◌, [], ◌∷◌, arith}
+use Rattle.std.specs.Int.{w32, to_le_bytes}
 use Rattle.state_bytes.specs.Words.{word_of, long_of, low_of, second_of, third_of, high_of}
 
 pub word_back : (v : ℕ) → v < 65536 → word_of (low_of v) (second_of v) ≡ v
@@ -29,3 +28,7 @@ module _ (a b c d : ℕ) (ha : a < 256) where
 
   pub high_long : b < 256 → c < 256 → high_of (long_of a b c d) ≡ d
   high_long hb hc = omega arith
+
+-- the bytes of a number are the four that are named
+pub named_bytes : (v : ℕ) → v < 2 ^ 32 → to_le_bytes w32 v ≡ low_of v ∷ second_of v ∷ third_of v ∷ high_of v ∷ []
+named_bytes v h = grind arith

@@ -1,7 +1,12 @@
 -- What stands at a place and those behind it. (rule 10.1)
-use Rattle.std.specs.Prelude.{List, ℕ, ◌+◌, get_or}
+use Rattle.std.specs.Prelude.{List, [], ◌∷◌, ℕ, zero, suc, ◌+◌, get_or}
 use Rattle.calendar.specs.declared.time.Time.{Time}
 use Rattle.state_bytes.specs.Words.{word_of, long_of}
+
+-- n bytes from place i + k on
+abbrev pub bytes_at : List ℕ → ℕ → ℕ → ℕ → List ℕ
+bytes_at s i k zero = []
+bytes_at s i k (suc n) = get_or s (i + k) 0 ∷ bytes_at s i (suc k) n
 
 -- seven bytes in the order of the time's registers
 abbrev pub time_at : List ℕ → ℕ → Time

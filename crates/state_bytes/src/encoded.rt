@@ -3,11 +3,11 @@ ghost use Rattle.std.specs.Prelude.{◌≡◌};
 ghost use Rattle.state_bytes.specs.Encoded.{bytes_of};
 
 use crate::phases::{age_in, mark_in, number_in};
-use crate::words::{high, low, second, third};
 use control::{ctr1, ctr2};
 use sd2068::Clock;
 
-// The state, well formed or not. (rule 10.2)
+// The state, well formed or not: a line for each byte, as the rule lists them, by the name of its definition. (rule 10.2)
+#[tactic(auto, unfolding(crate::specs::Encoded::bytes_of))]
 pub fn bytes_of(c: Clock) -> [u8; 61]
     ensures { result ≡ bytes_of c }
 {
@@ -19,10 +19,14 @@ pub fn bytes_of(c: Clock) -> [u8; 61]
     let control = c.control;
     let ram = c.ram;
     let latched = c.latched;
-    let divider = c.divider;
     let bus = c.bus;
     let phase = bus.phase;
-    let age = age_in(phase);
+    let age = age_in(phase).to_le_bytes();
+    let alarm_pulse = alarm.pulse.to_le_bytes();
+    let countdown_pulse = countdown.pulse.to_le_bytes();
+    let counter = hand.counter.to_le_bytes();
+    let divider = c.divider.to_le_bytes();
+    let prescaler = countdown.prescaler.to_le_bytes();
     let ctr1 = ctr1(c.lock, alarm.flag, countdown.flag, c.rtcf);
     let ctr2 = ctr2(c.lock, control);
     [
@@ -69,23 +73,23 @@ pub fn bytes_of(c: Clock) -> [u8; 61]
         bus.pointer,
         number_in(phase),
         mark_in(phase),
-        low(age),
-        second(age),
-        low(alarm.pulse),
-        second(alarm.pulse),
-        low(countdown.pulse),
-        second(countdown.pulse),
-        low(hand.counter),
-        second(hand.counter),
-        third(hand.counter),
-        high(hand.counter),
-        low(divider),
-        second(divider),
-        third(divider),
-        high(divider),
-        low(countdown.prescaler),
-        second(countdown.prescaler),
-        third(countdown.prescaler),
-        high(countdown.prescaler),
+        age[0],
+        age[1],
+        alarm_pulse[0],
+        alarm_pulse[1],
+        countdown_pulse[0],
+        countdown_pulse[1],
+        counter[0],
+        counter[1],
+        counter[2],
+        counter[3],
+        divider[0],
+        divider[1],
+        divider[2],
+        divider[3],
+        prescaler[0],
+        prescaler[1],
+        prescaler[2],
+        prescaler[3],
     ]
 }

@@ -12,6 +12,7 @@ use control::{Level, bell, frequency};
 use registers::clear_time;
 
 // Each group by itself, so that no state is put together; in this order and by these branches, for speed. (rule 10.3)
+#[tactic(auto, unfolding(crate::specs::Decoded::is_state, crate::specs::Decoded::clock_of, sd2068::specs::WellFormed::well_formed_of))]
 pub fn is_state(s: &[u8]) -> bool
     ensures { result ≡ is_state s.now }
 {
@@ -32,23 +33,23 @@ pub fn is_state(s: &[u8]) -> bool
         & (divider_of(s) <= 524287)
 }
 
-// By INTS, from the groups that it names. (rule 5.11)
+// By INTS, as `Clock::pin`, but from the groups alone that it names: no other is decoded, for speed. (rule 5.11)
+#[tactic(auto, unfolding(crate::specs::Decoded::clock_of, sd2068::specs::Pin::pin_of))]
 pub fn pin_of(s: &[u8]) -> Level
     ensures { letter_of result ≡ pin_of (clock_of s.now) }
 {
     let c = control_of(s);
-    if c.ints1 {
-        if c.ints0 {
+    match (c.ints1, c.ints0) {
+        (false, false) => Level::High,
+        (false, true) => {
+            let alarm = alarm_of(s);
+            bell(c.im, alarm.flag, c.intae, alarm.pulse)
+        }
+        // FS by the operator that it is in the chip.
+        (true, false) => frequency(c.intfe, c.ctr3 % 0x10, divider_of(s), hand_of(s).counter),
+        (true, true) => {
             let countdown = countdown_of(s);
             bell(c.im, countdown.flag, c.intde, countdown.pulse)
-        } else {
-            let hand = hand_of(s);
-            frequency(c.intfe, c.ctr3 % 0x10, divider_of(s), hand.counter)
         }
-    } else if c.ints0 {
-        let alarm = alarm_of(s);
-        bell(c.im, alarm.flag, c.intae, alarm.pulse)
-    } else {
-        Level::High
     }
 }

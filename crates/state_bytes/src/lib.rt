@@ -6,7 +6,6 @@ mod encoded;
 mod judged;
 mod phases;
 mod places;
-mod words;
 
 pub use decoded::{
     alarm_of, bus_of, clock_of, control_of, countdown_of, hand_of, lock_of, plain, rtcf_of,
@@ -15,4 +14,3 @@ pub use encoded::bytes_of;
 pub use judged::{is_state, pin_of};
 pub use phases::{age_in, mark_in, number_in};
 pub use places::{at, time_at};
-pub use words::{high, low, second, third};

@@ -1,34 +1,16 @@
-// The phase of the bus by its number, the mark and the age. (rule 10.2)
+// The phase of the bus by its number, the mark and the age: each is a part of it, and no conversion. (rule 10.2)
 ghost use Rattle.std.specs.Prelude.{◌≡◌};
-ghost use Rattle.state_bytes.specs.Phases.{mode_number, number_in, mark_number, mark_in, age_in, phase_of, phase_well};
+ghost use Rattle.state_bytes.specs.Phases.{number_in, mark_in, age_in, phase_of, phase_well};
 
 use bus::{Mode, Phase, Transfer};
-
-fn mode_number(mode: Mode) -> u8
-    ensures { result ≡ mode_number mode }
-{
-    match mode {
-        Mode::Address => 1,
-        Mode::Pointer => 2,
-        Mode::Writing => 3,
-        Mode::Reading => 4,
-        Mode::Deaf => 5,
-    }
-}
 
 pub fn number_in(phase: Phase) -> u8
     ensures { result ≡ number_in phase }
 {
     match phase {
         Phase::Closed => 0,
-        Phase::Open(mode, _) => mode_number(mode),
+        Phase::Open(mode, _) => mode as u8,
     }
-}
-
-fn mark_number(marked: bool) -> u8
-    ensures { result ≡ mark_number marked }
-{
-    if marked { 1 } else { 0 }
 }
 
 pub fn mark_in(phase: Phase) -> u8
@@ -36,7 +18,7 @@ pub fn mark_in(phase: Phase) -> u8
 {
     match phase {
         Phase::Closed => 0,
-        Phase::Open(_, transfer) => mark_number(transfer.marked),
+        Phase::Open(_, transfer) => u8::from(transfer.marked),
     }
 }
 
@@ -49,7 +31,7 @@ pub fn age_in(phase: Phase) -> u32
     }
 }
 
-// A number that is no open phase's counts as closed.
+// A number that is no open phase's counts as closed, as `phase_of` has it, so no conversion of it can fail.
 pub(crate) fn phase_of(number: u8, transfer: Transfer) -> Phase
     ensures { result ≡ phase_of number transfer }
 {

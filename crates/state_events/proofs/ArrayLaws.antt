@@ -2,15 +2,16 @@
 use mathlib.Core.Path.{◌≡◌, refl, ap, ◌∙◌}
 use mathlib.Core.Bool.{Bool, true, false}
 use mathlib.Core.List.{List, [], ◌∷◌}
-use Prim.Native.Nat.{ℕ, ◌-◌}
-use lib.Dec.{eqb, ltb}
+use Prim.Native.Nat.{ℕ}
+use lib.Dec.{eqb}
 use lib.ListN.{length, length-set}
+use native.Mathlib.Omega.{arith}
+use Rattle.std.proofs.lemmas.Grind.{common_steps}
 use Rattle.fields.proofs.Picked.{picked}
 use Rattle.events.specs.declared.event.Event.{Event}
 use Rattle.bus.specs.declared.bytes.Effect.{Effect}
-use Rattle.bus.specs.declared.bytes.Effect.TheVariants.{None, Latch, Write}
-use Rattle.bus.specs.declared.reads.Sent.{Sent}
-use Rattle.bus.specs.declared.reads.Sent.TheVariants.{Nothing, Register}
+use Rattle.bus.specs.declared.bytes.Effect.TheVariants as effect
+use Rattle.std.specs.Prelude.{Option, Some, None}
 use Rattle.bus.specs.Bytes.{heard_of}
 use Rattle.bus.specs.Reads as reads
 use Rattle.registers.specs.Fixed.{clear_time_of}
@@ -48,17 +49,16 @@ power_on_arrays s =
 module _ (c : Clock) (a : Arrays c) where
   ram_stored : (r b : ℕ) → Long 12 (ram_stored_of c.ram r b)
   unfolding ram_stored_of
-  ram_stored r b =
-      picked (Long 12) (ltb r 0x14) a.ram (picked (Long 12) (ltb r 0x20) (length-set c.ram (r - 0x14) b ∙ a.ram) a.ram)
+  ram_stored r b = grind (arith, common_steps, length-set {A = ℕ})
 
   write_arrays : (r b : ℕ) → Arrays (write_of c r b)
   unfolding write_of
   write_arrays r b = record { ram = picked (Long 12) (stores_of c r b) (ram_stored r b) a.ram; latched = a.latched }
 
   effect_arrays : (e : Effect) (b : ℕ) → Arrays (effected_by e c b)
-  effect_arrays None b = a
-  effect_arrays Latch b = record { ram = a.ram; latched = refl }
-  effect_arrays (Write r) b = write_arrays r b
+  effect_arrays effect.None b = a
+  effect_arrays effect.Latch b = record { ram = a.ram; latched = refl }
+  effect_arrays (effect.Write r) b = write_arrays r b
 
   byte_arrays : (b : ℕ) → After (byte_of c b)
   unfolding byte_of
@@ -66,10 +66,10 @@ module _ (c : Clock) (a : Arrays c) where
       let x = effect_arrays (heard_of c.bus b).effect b in
       record { ram = x.ram; latched = x.latched }
 
-  sent_arrays : (s : Sent) (ack : Bool) → After (sent_by s c ack)
+  sent_arrays : (s : Option ℕ) (ack : Bool) → After (sent_by s c ack)
   unfolding renewed_of
-  sent_arrays Nothing ack = a
-  sent_arrays (Register r) ack =
+  sent_arrays None ack = a
+  sent_arrays (Some r) ack =
       record { ram = a.ram; latched = picked (Long 7) (renews_of r) refl a.latched }
 
   read_arrays : (ack : Bool) → After (read_of c ack)

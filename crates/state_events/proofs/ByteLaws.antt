@@ -7,6 +7,7 @@ use native.Mathlib.Omega.{arith}
 use lib.Dec.{eqb, ltb, ltb→lt}
 use lib.ListN.{get_or, set}
 use borrow.Author.Tests.{ltb-true}
+use Rattle.std.proofs.lemmas.Grind.{common_steps}
 use Rattle.fields.specs.declared.hours.HourMode.{HourMode}
 use Rattle.fields.specs.declared.hours.HourMode.TheVariants.{Twelve, TwentyFour}
 use Rattle.fields.specs.Digits as digits
@@ -31,28 +32,24 @@ use Rattle.countdown.specs.Countdown as countdown
 use Rattle.control.specs.declared.control.Control.{Control}
 use Rattle.control.specs.Lock.{ctr1_of, ctr2_of}
 use Rattle.control.specs.Control as control
-use Rattle.control.specs.Pin.{driven_of, bell_of, low_half_of, output_of}
+use Rattle.control.specs.Pin.{driven_of, bell_of, output_of}
 use Rattle.control.proofs.BitLaws.{ctr1, ctr2}
 use Rattle.bus.specs.declared.phase.Bus.{Bus}
 use Rattle.bus.specs.declared.bytes.Effect.{Effect}
-use Rattle.bus.specs.declared.bytes.Effect.TheVariants.{None, Latch, Write}
-use Rattle.bus.specs.declared.reads.Sent.{Sent}
-use Rattle.bus.specs.declared.reads.Sent.TheVariants.{Nothing, Register}
+use Rattle.bus.specs.declared.bytes.Effect.TheVariants as effect
+use Rattle.std.specs.Prelude.{Option, Some, None}
 use Rattle.bus.specs.Bytes.{heard_of}
 use Rattle.bus.specs.Reads as reads
-use Rattle.events.specs.declared.answer.Answer.{Answer}
-use Rattle.events.specs.Refusal.{fields_of}
 use Rattle.sd2068.specs.declared.clock.Clock.{Clock}
 use Rattle.sd2068.specs.declared.answers.Answered.{Answered}
 use Rattle.sd2068.specs.Clock.{with_latched, with_bus}
-use Rattle.sd2068.specs.Controls.{fs_of, ints_of, tds_of}
+use Rattle.sd2068.specs.Controls.{ints_of, tds_of}
 use Rattle.sd2068.specs.Power.{powered_of, lost_of}
 use Rattle.sd2068.specs.Pin.{pin_of}
 use Rattle.sd2068.specs.Pulse.{pulse_of, pulses_of}
 use Rattle.sd2068.specs.Reading.{control_at_of, register_of, shown_of}
 use Rattle.sd2068.specs.Writing.{ram_stored_of, stores_of, written_by, write_of}
 use Rattle.sd2068.specs.Transfer.{started_of, stopped_of, effected_by, byte_of, renews_of, renewed_of, sent_by, read_of}
-use Rattle.sd2068.specs.WellFormed.{well_formed_of}
 use Rattle.sd2068.specs.Step.{event_of, refusal_of, step_of}
 use Rattle.state_bytes.specs.Decoded as decoded
 use Rattle.state_events.specs.Said.{answer_byte}
@@ -89,29 +86,19 @@ tested (x ∷ l) e = more (ltb-true x 256 (and_left (ltb x 256) (below l) e)) (t
 module _ (b : ℕ) (h : Byte b) where
   time_kept : (a : ℕ) → Byte (kept_time a b)
   unfolding kept_time
-  time_kept a =
-      picked Byte (eqb a 0x02) (omega arith)
-      (picked Byte (eqb a 0x03) (omega arith)
-      (picked Byte (eqb a 0x04) (omega arith)
-      (picked Byte (eqb a 0x05) (omega arith)
-      (picked Byte (eqb a 0x06) h (omega arith)))))
+  time_kept a = grind (arith, common_steps)
 
   alarm_kept_lem : (a : ℕ) → Byte (kept_alarm a b)
   unfolding kept_alarm
-  alarm_kept_lem a =
-      picked Byte (eqb a 0x09) (omega arith)
-      (picked Byte (eqb a 0x0B) (omega arith)
-      (picked Byte (eqb a 0x0C) (omega arith)
-      (picked Byte (eqb a 0x0D) h (omega arith))))
+  alarm_kept_lem a = grind (arith, common_steps)
 
   control_kept : (a : ℕ) → Byte (kept_control a b)
   unfolding kept_control
-  control_kept a =
-      picked Byte (eqb a 0x0F) (omega arith) (picked Byte (eqb a 0x11) (omega arith) (picked Byte (eqb a 0x12) (omega arith) h))
+  control_kept a = grind (arith, common_steps)
 
   kept : (a : ℕ) → Byte (kept_of a b)
   unfolding kept_of
-  kept a = picked Byte (ltb a 0x07) (time_kept a) (picked Byte (ltb a 0x0F) (alarm_kept_lem a) (control_kept a))
+  kept a = grind (arith, common_steps, time_kept, alarm_kept_lem, control_kept)
 
 -- a time one second on
 stepped : (first last x : ℕ) → Byte first → Byte (digits.step_of first last x)
@@ -235,9 +222,9 @@ module _ (c : Clock) (s : Small c) where
   abbrev Answers : Answered → Type 0
   Answers a = Byte (answer_byte a.answer)
 
-  sent_byte : (sent : Sent) (ack : Bool) → Answers (sent_by sent c ack)
-  sent_byte Nothing ack = omega arith
-  sent_byte (Register a) ack = shown_byte a
+  sent_byte : (sent : Option ℕ) (ack : Bool) → Answers (sent_by sent c ack)
+  sent_byte None ack = omega arith
+  sent_byte (Some a) ack = shown_byte a
 
   read_byte : (ack : Bool) → Answers (read_of c ack)
   unfolding read_of
@@ -245,17 +232,11 @@ module _ (c : Clock) (s : Small c) where
 
   heard_byte : (b : ℕ) → Answers (byte_of c b)
   unfolding byte_of
-  heard_byte b = picked (λ (a : Answer). Byte (answer_byte a)) (heard_of c.bus b).ack (omega arith) (omega arith)
+  heard_byte b = grind (arith, common_steps)
 
   pub answer_byte_lem : (kind byte count : ℕ) → Answers (event_of c kind byte count)
   unfolding event_of
-  answer_byte_lem kind byte count =
-      picked Answers (eqb kind 0) (omega arith)
-      (picked Answers (eqb kind 1) (omega arith)
-      (picked Answers (eqb kind 2) (heard_byte byte)
-      (picked Answers (eqb kind 3) (read_byte true)
-      (picked Answers (eqb kind 4) (read_byte false)
-      (picked Answers (eqb kind 5) (omega arith) (omega arith))))))
+  answer_byte_lem kind byte count = grind (arith, common_steps, heard_byte, read_byte)
 
 -- a byte that is written, stored or not
 abbrev Ctr3 : Control → Type 0
@@ -317,14 +298,14 @@ module _ (c : Clock) (s : Small c) where
       }
 
   effect_small : (e : Effect) (b : ℕ) → Byte b → Small (effected_by e c b)
-  effect_small None b h = s
-  effect_small Latch b h = latch_small (bytes_of c.hand.time) c.bus s.time
-  effect_small (Write a) b h = write_small c s a b h
+  effect_small effect.None b h = s
+  effect_small effect.Latch b h = latch_small (bytes_of c.hand.time) c.bus s.time
+  effect_small (effect.Write a) b h = write_small c s a b h
 
-  sent_small : (sent : Sent) (ack : Bool) → After (sent_by sent c ack)
+  sent_small : (sent : Option ℕ) (ack : Bool) → After (sent_by sent c ack)
   unfolding renewed_of
-  sent_small Nothing ack = s
-  sent_small (Register a) ack =
+  sent_small None ack = s
+  sent_small (Some a) ack =
       latch_small (cond (renews_of a) (bytes_of c.hand.time) c.latched) (reads.read_of c.bus ack).bus
       (picked AllBytes (renews_of a) s.time s.latched)
 
@@ -411,18 +392,15 @@ module _ (c : Clock) (s : Small c) where
 
 -- the letter of a pin is a byte
 driven_byte : (low : Bool) → Byte (driven_of low)
-driven_byte low = picked Byte low (omega arith) (omega arith)
+driven_byte low = grind (arith, common_steps)
 
 bell_byte : (im flag enabled : Bool) (pulse : ℕ) → Byte (bell_of im flag enabled pulse)
 unfolding bell_of
-bell_byte im flag enabled pulse = picked Byte im (driven_byte (enabled && ltb 0 pulse)) (driven_byte flag)
+bell_byte im flag enabled pulse = grind (arith, common_steps)
 
 output_byte : (fs divider counter : ℕ) → Byte (output_of fs divider counter)
 unfolding output_of
-output_byte fs divider counter =
-    picked Byte (eqb fs 0) (omega arith)
-    (picked Byte (eqb fs 1) (omega arith)
-    (picked Byte (eqb fs 15) (driven_byte (ltb counter 16384)) (driven_byte (low_half_of fs divider))))
+output_byte fs divider counter = grind (arith, common_steps)
 
 module _ (c : Clock) where
   abbrev ints : ℕ
@@ -430,14 +408,9 @@ module _ (c : Clock) where
 
   pub pin_byte : Byte (pin_of c)
   unfolding pin_of
-  pin_byte =
-      picked Byte (eqb ints 0) (omega arith)
-      (picked Byte (eqb ints 1) (bell_byte c.control.im c.alarm.flag c.control.intae c.alarm.pulse)
-      (picked Byte (eqb ints 2) (picked Byte c.control.intfe (output_byte (fs_of c.control.ctr3) c.divider c.hand.counter) (omega arith))
-      (bell_byte c.control.im c.countdown.flag c.control.intde c.countdown.pulse)))
+  pin_byte = grind (arith, common_steps, bell_byte, output_byte)
 
   -- and so is the number of a refusal
   pub refusal_byte : (kind byte count : ℕ) → Byte (refusal_of c kind byte count)
   unfolding refusal_of
-  refusal_byte kind byte count =
-      picked Byte (well_formed_of c) (picked Byte (ltb kind 7) (picked Byte (fields_of kind byte count) (omega arith) (omega arith)) (omega arith)) (omega arith)
+  refusal_byte kind byte count = grind (arith, common_steps)

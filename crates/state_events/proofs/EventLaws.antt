@@ -1,5 +1,5 @@
 -- What an event leaves of a state's bytes are the bytes of the state that it leaves, and it answers the same. Assumes nothing.
-use mathlib.Core.Path.{◌≡◌, refl, sym, ap, ◌∙◌}
+use mathlib.Core.Path.{◌≡◌, sym, ap, ◌∙◌}
 use mathlib.Core.Bool.{Bool, true, false, cond}
 use mathlib.Core.List.{List}
 use Prim.{Unit}
@@ -8,9 +8,8 @@ use native.Mathlib.Omega.{arith}
 use lib.Dec.{eqb, ltb}
 use lib.ListN.{length}
 use borrow.Author.Tests.{ltb-true}
-use Rattle.fields.proofs.Picked.{picked}
+use Rattle.std.proofs.lemmas.Grind.{common_steps}
 use Rattle.bus.specs.declared.phase.Mode.{Mode}
-use Rattle.bus.specs.declared.phase.Mode.TheVariants.{Address, Pointer, Writing, Reading, Deaf}
 use Rattle.bus.specs.declared.phase.Transfer.{Transfer}
 use Rattle.bus.specs.declared.phase.Bus.{Bus}
 use Rattle.bus.specs.declared.bytes.Effect.{Effect}
@@ -46,11 +45,7 @@ abbrev LowIn : Heard → Type 0
 LowIn h = Low h.effect
 
 low_in : (m : Mode) (p : ℕ) (t : Transfer) (b : ℕ) → p ≤ 31 → LowIn (heard_in m p t b)
-low_in Address p t b h = picked LowIn (eqb b 0x64) tt (picked LowIn (eqb b 0x65) tt tt)
-low_in Pointer p t b h = picked LowIn (ltb b 0x20) tt tt
-low_in Writing p t b h = omega arith
-low_in Reading p t b h = tt
-low_in Deaf p t b h = tt
+low_in m p t b h = grind (arith, common_steps)
 
 low : {bus : Bus} → bus_laws.Well bus → (b : ℕ) → LowIn (heard_of bus b)
 unfolding heard_of
@@ -58,8 +53,7 @@ low (shut h) b = tt
 low (opened {p} {m} {t} h a) b = low_in m p t b h
 
 kind_low : (k f : Bool) → ◌≡◌ {A = ℕ} (cond k (cond f 0 3) 2) 0 → k ≡ true
-kind_low true f e = refl
-kind_low false f e = absurd (omega arith)
+kind_low k f e = grind (arith, common_steps)
 
 module _ (s : List ℕ) (again : bytes_of (clock_of s) ≡ s) (w : Well (clock_of s)) where
   effect_left : (e : Effect) (b : ℕ) → Low e → effected_in e s b ≡ bytes_of (effected_by e (clock_of s) b)

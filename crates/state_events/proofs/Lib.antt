@@ -1,5 +1,4 @@
 pub mod ArrayLaws
-pub mod CopyLaws
 pub mod TrafficLaws
 pub mod WriteLaws
 pub mod EventLaws

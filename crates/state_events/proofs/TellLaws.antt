@@ -6,7 +6,6 @@ use Prim.Native.Nat.{ℕ}
 use lib.Dec.{eqb}
 use lib.ListN.{length}
 use borrow.Author.Tests.{eq-eqb, eqb-true}
-use Rattle.events.specs.declared.answer.Answer.{Answer}
 use Rattle.events.specs.declared.answer.Answer.TheVariants.{Quiet}
 use Rattle.events.specs.Refusal.{fault_of}
 use Rattle.sd2068.specs.declared.clock.Clock.{Clock}
@@ -24,17 +23,6 @@ use Rattle.state_events.specs.Event.{event_in, answered_in, lent, tell_in, answe
 use Rattle.state_events.proofs.ArrayLaws.{decoded_arrays, step_arrays}
 use Rattle.state_events.proofs.TrafficLaws.{done_by}
 use Rattle.state_events.proofs.EventLaws.{event_left}
-
--- what is told and left, from what the event leaves and its pin
-pub tell_by :
-    (s : List ℕ) (refusal kind byte count r level : ℕ) (answer : Answer) (out : List ℕ) → length s ≡ 61 → done answer out ≡ answered_in s refusal kind byte count →
-    level ≡ pin_of (clock_of out) → r ≡ told_of refusal level answer → lent r out ≡ tell_in s refusal kind byte count
-unfolding tell_in
-tell_by s refusal kind byte count r level answer out long said pin told =
-    let d = answered_in s refusal kind byte count in
-    ap (λ (n : ℕ). lent n out) (told ∙ ap (λ (l : ℕ). told_of refusal l answer) pin)
-    ∙ ap (λ (x : Done). lent (told_of refusal (pin_of (clock_of x.state)) x.answer) x.state) said
-    ∙ sym (ap (λ (b : Bool). cond b (lent (told_of refusal (pin_of (clock_of d.state)) d.answer) d.state) (lent 1 s)) (eq-eqb (length s) 61 long))
 
 -- bytes that are a well-formed state's
 pub record Stands (s : List ℕ) : Type 0 where

@@ -2,15 +2,13 @@
 use mathlib.Core.Path.{◌≡◌, refl, sym, ap, ◌∙◌}
 use mathlib.Core.Bool.{Bool, true, false, cond, ◌&&◌}
 use mathlib.Core.List.{List}
-use Prim.Native.Nat.{ℕ, ◌+◌, ◌≤◌}
+use Prim.Native.Nat.{ℕ}
 use native.Mathlib.Omega.{arith}
-use lib.Dec.{ltb}
-use lib.ListN.{get_or, set}
-use borrow.Author.Tests.{le-ltb, ltb-true, ltb-false}
+use lib.ListN.{set}
+use Rattle.std.proofs.lemmas.Grind.{common_steps}
 use Rattle.registers.specs.Seven as seven
 use Rattle.bus.specs.declared.phase.Bus.{Bus}
-use Rattle.bus.specs.declared.reads.Sent.{Sent}
-use Rattle.bus.specs.declared.reads.Sent.TheVariants.{Nothing, Register}
+use Rattle.std.specs.Prelude.{Option, Some, None}
 use Rattle.bus.specs.Phase as phase
 use Rattle.bus.specs.Phase.{closed_bus}
 use Rattle.bus.specs.Reads as reads
@@ -39,20 +37,9 @@ bus_put c b = refl
 
 -- a read shows what the state shows
 module _ (c : Clock) (a : ℕ) where
-  past : 32 ≤ a → 0xFF ≡ register_of c a
-  unfolding register_of
-  past h = simp (le-ltb a 0x07 (omega arith), le-ltb a 0x0E (omega arith), le-ltb a 0x14 (omega arith), le-ltb a 0x20 h)
-
-  shown_by :
-      (time register : Bool) → ltb a 0x07 ≡ time → ltb a 0x20 ≡ register →
-      cond time (get_or (bytes_of c) (32 + a) 0) (cond register (get_or (bytes_of c) a 0) 0xFF) ≡ cond time (get_or c.latched a 0) (register_of c a)
-  shown_by true register e f = latched_place c a (ltb-true a 0x07 e)
-  shown_by false true e f = register_place c a (ltb-true a 0x20 f)
-  shown_by false false e f = past (ltb-false a 0x20 f)
-
   pub stands : shown_in (bytes_of c) a ≡ shown_of c a
-  unfolding shown_of
-  stands = shown_by (ltb a 0x07) (ltb a 0x20) refl refl
+  unfolding shown_of register_of
+  stands = grind (arith, common_steps, latched_place, register_place)
 
 module _ (s : List ℕ) (again : bytes_of (clock_of s) ≡ s) where
   pub start_left : started_in s ≡ bytes_of (started_of (clock_of s))
@@ -77,10 +64,10 @@ module _ (s : List ℕ) (again : bytes_of (clock_of s) ≡ s) where
   unfolding renewed_of
   renew_left a = renewed_by (renews_of a)
 
-  sent_left : (x : Sent) (ack : Bool) → sent_in x s ack ≡ done_by (sent_by x (clock_of s) ack)
+  sent_left : (x : Option ℕ) (ack : Bool) → sent_in x s ack ≡ done_by (sent_by x (clock_of s) ack)
   unfolding clock_of
-  sent_left Nothing ack = ap (done (Byte 0xFF)) (sym again)
-  sent_left (Register a) ack =
+  sent_left None ack = ap (done (Byte 0xFF)) (sym again)
+  sent_left (Some a) ack =
       let bus = (reads.read_of (bus_of s) ack).bus in
       λ i.
       done (Byte ((ap (λ (l : List ℕ). shown_in l a) (sym again) ∙ stands (clock_of s) a) i))

@@ -1,10 +1,15 @@
 -- Parts of a state written over their bytes. (rule 10.2)
-use Rattle.std.specs.Prelude.{cond, List, ℕ, ◌+◌, eqb, length, set}
+use Rattle.std.specs.Prelude.{cond, List, [], ◌∷◌, ℕ, suc, ◌+◌, eqb, length, set}
 use Rattle.calendar.specs.declared.time.Time.{Time}
 use Rattle.countdown.specs.declared.Countdown.{Countdown}
 use Rattle.bus.specs.declared.phase.Bus.{Bus}
 use Rattle.state_bytes.specs.Words.{low_of, second_of, third_of, high_of}
 use Rattle.state_bytes.specs.Phases.{number_in, mark_in, age_in}
+
+-- bytes one behind another, the first at place i + k
+abbrev pub put_bytes : List ℕ → ℕ → ℕ → List ℕ → List ℕ
+put_bytes s i k [] = s
+put_bytes s i k (b ∷ bs) = put_bytes (set s (i + k) b) i (suc k) bs
 
 abbrev pub put_time : List ℕ → ℕ → Time → List ℕ
 put_time s i t =

@@ -1,9 +1,7 @@
 -- The events of the bus on a state's bytes. (rules 6.2 to 6.11)
-use Rattle.std.specs.Prelude.{Bool, cond, ◌&&◌, not, List, ℕ, ◌+◌, ltb, get_or, set}
+use Rattle.std.specs.Prelude.{Bool, cond, ◌&&◌, not, List, ℕ, ◌+◌, ltb, get_or, set, Option, Some, None}
 use Rattle.bus.specs.declared.bytes.Effect.{Effect}
 use Rattle.bus.specs.declared.bytes.Effect.TheVariants as effect
-use Rattle.bus.specs.declared.reads.Sent.{Sent}
-use Rattle.bus.specs.declared.reads.Sent.TheVariants.{Nothing, Register}
 use Rattle.bus.specs.Phase.{started_of, closed_bus, marked_of}
 use Rattle.bus.specs.Bytes.{heard_of}
 use Rattle.bus.specs.Reads.{read_of}
@@ -62,9 +60,9 @@ abbrev pub renewed_in : List ℕ → ℕ → List ℕ
 renewed_in s a = cond (renews_of a) (latched_in s) s
 
 -- a read
-abbrev pub sent_in : Sent → List ℕ → Bool → Done
-sent_in Nothing s ack = done (Byte 0xFF) s
-sent_in (Register a) s ack = done (Byte (shown_in s a)) (put_bus (renewed_in s a) (read_of (bus_of s) ack).bus)
+abbrev pub sent_in : Option ℕ → List ℕ → Bool → Done
+sent_in None s ack = done (Byte 0xFF) s
+sent_in (Some a) s ack = done (Byte (shown_in s a)) (put_bus (renewed_in s a) (read_of (bus_of s) ack).bus)
 
 abbrev pub read_in : List ℕ → Bool → Done
 read_in s ack = sent_in (read_of (bus_of s) ack).sent s ack

@@ -1,12 +1,13 @@
 // Parts of a state written over their bytes: past the end nothing is written. (rules 10.1 and 10.2)
-ghost use Rattle.std.specs.Prelude.{◌≡◌, set};
-ghost use Rattle.state_events.specs.Put.{put_time, put_word, put_long, put_countdown, put_bus};
+ghost use Rattle.std.specs.Prelude.{◌≡◌, ◌≤◌, length, set};
+ghost use Rattle.state_events.specs.Put.{put_bytes, put_time, put_word, put_long, put_countdown, put_bus};
 
 use bus::Bus;
 use calendar::Time;
 use countdown::Countdown;
-use state_bytes::{age_in, high, low, mark_in, number_in, second, third};
+use state_bytes::{age_in, mark_in, number_in};
 
+// One byte at its place; by `get_mut` this stayed unproved.
 pub(crate) fn put_at(s: &mut [u8], i: usize, b: u8)
     ensures { s.new ≡ set s.old i b }
 {
@@ -15,35 +16,32 @@ pub(crate) fn put_at(s: &mut [u8], i: usize, b: u8)
     }
 }
 
+// One behind another from place i on; seven are the most that are written so.
+fn put_bytes(s: &mut [u8], i: u8, bytes: &[u8])
+    requires { length bytes.now ≤ 7 }
+    ensures { s.new ≡ put_bytes s.old i 0 bytes.now }
+{
+    for (k, byte) in bytes.iter().enumerate() {
+        put_at(s, i as usize + k, *byte);
+    }
+}
+
 pub(crate) fn put_time(s: &mut [u8], i: u8, t: Time)
     ensures { s.new ≡ put_time s.old i t }
 {
-    let i = i as usize;
-    put_at(s, i, t.seconds);
-    put_at(s, i + 1, t.minutes);
-    put_at(s, i + 2, t.hours);
-    put_at(s, i + 3, t.weekday);
-    put_at(s, i + 4, t.day);
-    put_at(s, i + 5, t.month);
-    put_at(s, i + 6, t.year);
+    put_bytes(s, i, &<[u8; 7]>::from(t));
 }
 
 fn put_word(s: &mut [u8], i: u8, v: u32)
     ensures { s.new ≡ put_word s.old i v }
 {
-    let i = i as usize;
-    put_at(s, i, low(v));
-    put_at(s, i + 1, second(v));
+    put_bytes(s, i, &v.to_le_bytes()[..2]);
 }
 
 pub(crate) fn put_long(s: &mut [u8], i: u8, v: u32)
     ensures { s.new ≡ put_long s.old i v }
 {
-    let i = i as usize;
-    put_at(s, i, low(v));
-    put_at(s, i + 1, second(v));
-    put_at(s, i + 2, third(v));
-    put_at(s, i + 3, high(v));
+    put_bytes(s, i, &v.to_le_bytes());
 }
 
 // But for the flag, which stands in 0Fh beside others.

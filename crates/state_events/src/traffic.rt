@@ -1,13 +1,13 @@
 // The events of the bus on a state's bytes: only the bytes that they can change are written. (rules 6.2 to 6.11)
 ghost use Rattle.std.specs.Prelude.{◌≡◌};
 ghost use Rattle.state_events.specs.Traffic.{done, started_in, stopped_in, latched_in, effected_in, heard_in, shown_in, renewed_in, read_in};
-ghost use Rattle.sd2068.specs.Transfer.{acknowledged};
 
 use crate::put::{put_at, put_bus, put_time};
 use crate::written::write;
-use bus::{Bus, Effect, Phase, Sent, next};
+use bus::{Bus, Effect, next};
 use control::ctr1;
 use events::Answer;
+use registers::bit_at;
 use state_bytes::{alarm_of, at, bus_of, control_of, countdown_of, lock_of, rtcf_of, time_at};
 
 // START. (rule 6.2)
@@ -23,20 +23,16 @@ pub(crate) fn stop(s: &mut [u8])
 {
     let alarm = alarm_of(s);
     let countdown = countdown_of(s);
-    let control = control_of(s);
-    let keep = !((control.ctr3 / 0x80 % 2 == 1) & bus_of(s).marked());
+    // ARST by the bit that it is in the chip.
+    let keep = !(bit_at(control_of(s).ctr3, 7) & bus_of(s).marked());
     let flags = ctr1(
         lock_of(s),
         keep & alarm.flag,
         keep & countdown.flag,
         rtcf_of(s),
     );
-    let closed = Bus {
-        pointer: 0x00,
-        phase: Phase::Closed,
-    };
     put_at(s, 0x0F, flags);
-    put_bus(s, closed);
+    put_bus(s, Bus::default());
 }
 
 // The seven bytes of the time, latched. (rules 6.3 and 6.9)
@@ -57,23 +53,14 @@ fn put_effect(s: &mut [u8], effect: Effect, b: u8)
     }
 }
 
-// How a byte is acknowledged. (rules 6.3 to 6.6)
-fn acknowledge(ack: bool) -> Answer
-    ensures { result ≡ acknowledged ack }
-{
-    if ack { Answer::Ack } else { Answer::Nak }
-}
-
 // A master's byte. (rules 6.3 to 6.6)
 pub(crate) fn hear(s: &mut [u8], b: u8) -> Answer
     ensures { done result s.new ≡ heard_in s.old b }
 {
     let heard = bus_of(s).heard(b);
-    let effect = heard.effect;
-    let bus = heard.bus;
-    put_effect(s, effect, b);
-    put_bus(s, bus);
-    acknowledge(heard.ack)
+    put_effect(s, heard.effect, b);
+    put_bus(s, heard.bus);
+    Answer::from(heard.ack)
 }
 
 // A register as a read on the bus sees it: the time comes from the latch. (rule 6.7)
@@ -91,9 +78,8 @@ fn shown(s: &[u8], a: u8) -> u8
 fn renew(s: &mut [u8], a: u8)
     ensures { s.new ≡ renewed_in s.old a }
 {
-    match next(a) {
-        0x00 => latch(s),
-        _ => {}
+    if next(a) == 0x00 {
+        latch(s);
     }
 }
 
@@ -102,15 +88,11 @@ pub(crate) fn read(s: &mut [u8], ack: bool) -> Answer
     ensures { done result s.new ≡ read_in s.old ack }
 {
     let read = bus_of(s).read(ack);
-    let sent = read.sent;
-    match sent {
-        Sent::Nothing => Answer::Byte(0xFF),
-        Sent::Register(a) => {
-            let bus = read.bus;
-            let byte = shown(s, a);
-            renew(s, a);
-            put_bus(s, bus);
-            Answer::Byte(byte)
-        }
-    }
+    let Some(a) = read.sent else {
+        return Answer::Byte(0xFF);
+    };
+    let byte = shown(s, a);
+    renew(s, a);
+    put_bus(s, read.bus);
+    Answer::Byte(byte)
 }

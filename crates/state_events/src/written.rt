@@ -60,6 +60,7 @@ fn store(s: &mut [u8], a: u8, b: u8)
 }
 
 // The lock bits go by the byte alone, the rest takes it if it is stored. (rule 7.2)
+#[tactic(auto, unfolding(crate::specs::Written::write_in))]
 pub(crate) fn write(s: &mut [u8], a: u8, b: u8)
     ensures { s.new ≡ write_in s.old a b }
 {

@@ -1,23 +1,13 @@
--- A run hands back no more lines than its output has room for. Assumes nothing.
-use Rattle.std.proofs.Common.{ap, arith, length-take-le, rules, sym}
-use Rattle.script.specs.File.{Run}
-use Rattle.script.proofs.RunLaws.{run_fits}
+-- A run counts no more events than its output has room for lines. Assumes nothing.
+use Rattle.std.proofs.Common.{arith, length-take-le, sym}
+use Rattle.script.proofs.RunLaws.{run_room}
 use Rattle.clock.proofs.run_file.Goals as goal
 
-pub overflow_mul-end : goal.overflow_mul-end
-overflow_mul-end g c =
-    let n = ap (λ (r : Run). r.count) c.run-ran.ensures in
-    let f = run_fits c.args.file.now c.args.out.now in
-    search rules
+pub overflow_mul-ran : goal.overflow_mul-ran
+overflow_mul-ran g c = omega (arith, run_room _ _ _ _ c.in-Ok.ensures)
 
 pub slice_bounds-write_all-end : goal.slice_bounds-write_all-end
-slice_bounds-write_all-end g c =
-    let n = ap (λ (r : Run). r.count) c.run-ran.ensures in
-    let f = run_fits c.args.file.now c.args.out.now in
-    omega arith
+slice_bounds-write_all-end g c = omega (arith, run_room _ _ _ _ c.in-Ok.ensures)
 
-pub slice_bounds-write_all-end-then-n-eq0 : goal.slice_bounds-write_all-end-then-n-eq0
-slice_bounds-write_all-end-then-n-eq0 g c =
-    let n = ap (λ (r : Run). r.count) c.run-ran.ensures in
-    let f = run_fits c.args.file.now c.args.out.now in
-    sym (length-take-le _ _ (omega arith))
+pub slice_bounds-write_all-end-in-Ok : goal.slice_bounds-write_all-end-in-Ok
+slice_bounds-write_all-end-in-Ok g c = sym (length-take-le _ _ (omega (arith, run_room _ _ _ _ c.in-Ok.ensures)))

@@ -1,5 +1,5 @@
 -- What is left to do from here comes to what was to be done. Assumes nothing.
-use mathlib.Core.Path.{◌≡◌}
+use Rattle.std.proofs.Common.{◌≡◌}
 use Rattle.calendar.specs.Repeat.{times}
 use Rattle.sd2068.specs.Pulse.{pulse_of}
 use Rattle.sd2068.proofs.clock.Clock.pulses.Given as goal

@@ -1,12 +1,7 @@
--- After i turns the first i registers stand in the array. Assumes nothing.
-use mathlib.Core.Path.{◌≡◌}
-use Prim.Native.Nat.{◌-◌, ◌≤◌}
-use lib.ListN.{length, take}
+-- After a turns the first a registers stand in the array. Assumes nothing.
+use Rattle.std.proofs.Common.{◌≡◌, length, take}
 use Rattle.sd2068.specs.Reading.{registers_to}
 use Rattle.sd2068.proofs.clock.Clock.registers.Given as goal
 
-abbrev pub invariant-loop-i : goal.invariant-loop-i
-invariant-loop-i l = (l.i ≤ 32) × ((length l.all ≡ 32) × (take l.i l.all ≡ registers_to l.self l.i))
-
-abbrev pub decreases-loop-i : goal.decreases-loop-i
-decreases-loop-i l = 32 - l.i
+abbrev pub invariant-loop-a : goal.invariant-loop-a
+invariant-loop-a l = (length l.byte-items ≡ 32) × (take l.a l.byte-items ≡ registers_to l.self l.a)

@@ -1,8 +1,0 @@
--- Each case of the phase is the definition's. Assumes nothing.
-use Rattle.bus.proofs.phase.Bus.started.Goals as goal
-
-pub returns-in-Closed : goal.returns-in-Closed
-returns-in-Closed c = simp c.in-Closed.is
-
-pub returns-in-Open : goal.returns-in-Open
-returns-in-Open c = simp c.in-Open.is

@@ -1,6 +1,0 @@
--- The code computes what the definition says. Assumes nothing.
-use mathlib.Core.Path.{refl}
-use Rattle.fields.proofs.digits.byte.Goals as goal
-
-pub returns : goal.returns
-returns c = refl

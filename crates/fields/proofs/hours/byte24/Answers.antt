@@ -1,6 +1,0 @@
--- The arithmetic is the table's, by the test over every byte. Assumes nothing.
-use Rattle.fields.proofs.HourCodes.{byte24_right}
-use Rattle.fields.proofs.hours.byte24.Goals as goal
-
-pub returns : goal.returns
-returns c = simp (c.pick.ensures, c.byte.ensures) (byte24_right c.args.n c.ranges.n.fits)

@@ -1,5 +1,0 @@
--- The bus alone moves. Assumes nothing.
-use Rattle.sd2068.proofs.clock.Clock.aged.Goals as goal
-
-pub returns : goal.returns
-returns c = simp c.older-self.ensures

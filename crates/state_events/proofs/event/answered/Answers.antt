@@ -1,9 +1,0 @@
--- By the refusal. Assumes nothing.
-use borrow.Author.Tests.{eq-eqb, ne_eqb}
-use Rattle.state_events.proofs.event.answered.Goals as goal
-
-pub returns-then-refusal-eq0 : goal.returns-then-refusal-eq0
-returns-then-refusal-eq0 c = simp (c.event.ensures, eq-eqb _ _ c.if-refusal-eq0.true)
-
-pub returns-else-refusal-eq0 : goal.returns-else-refusal-eq0
-returns-else-refusal-eq0 c = simp (ne_eqb _ _ c.if-refusal-eq0.false)

@@ -1,5 +1,0 @@
--- Each byte is its function's. Assumes nothing.
-use Rattle.state_events.proofs.put.put_countdown.Goals as goal
-
-pub returns : goal.returns
-returns c = cc
