@@ -32,7 +32,7 @@ use Rattle.countdown.specs.Countdown as countdown
 use Rattle.control.specs.declared.control.Control.{Control}
 use Rattle.control.specs.Lock.{ctr1_of, ctr2_of}
 use Rattle.control.specs.Control as control
-use Rattle.control.specs.Pin.{driven_of, bell_of, output_of}
+use Rattle.control.specs.Pin.{bell_of, output_of}
 use Rattle.control.proofs.BitLaws.{ctr1, ctr2}
 use Rattle.bus.specs.declared.phase.Bus.{Bus}
 use Rattle.bus.specs.declared.bytes.Effect.{Effect}
@@ -391,9 +391,6 @@ module _ (c : Clock) (s : Small c) where
   step_small kind byte count h = picked After (eqb (refusal_of c kind byte count) 0) (event_small kind byte count h) s
 
 -- the letter of a pin is a byte
-driven_byte : (low : Bool) → Byte (driven_of low)
-driven_byte low = grind (arith, common_steps)
-
 bell_byte : (im flag enabled : Bool) (pulse : ℕ) → Byte (bell_of im flag enabled pulse)
 unfolding bell_of
 bell_byte im flag enabled pulse = grind (arith, common_steps)
