@@ -1,3 +1,4 @@
 pub mod Telling
 pub mod RowLaws
+pub mod TriedLaws
 pub mod Settled

@@ -1,7 +1,6 @@
 -- Every public contract of this crate settles its result. Assumes nothing.
-use Rattle.std.proofs.Common.{◌≡◌, refl, sym, ap, ◌∙◌, cond, List, ℕ, ◌+◌, ◌-◌, ◌*◌, arith, get_or, eqb, ltb, Option, Some, None, Result, Ok, Err, IfOk, false}
+use Rattle.std.proofs.Common.{◌≡◌, refl, ap, cond, List, ℕ, ◌+◌, ◌-◌, ◌*◌, arith, get_or, eqb, ltb, Option, Some, None, Result, Ok, Err, false}
 use Rattle.std.proofs.lemmas.Bool.Decides.{nat_tests}
-use Rattle.std.proofs.lemmas.Result.{IfOk-at_ok}
 use Rattle.fields.proofs.Settles.{Settles, settled}
 use Rattle.events.specs.declared.answer.Answer.{Answer}
 use Rattle.events.specs.declared.answer.Answer.TheVariants as answer
@@ -10,9 +9,9 @@ use Rattle.events.specs.declared.refusal.Refusal.TheVariants as refusal
 use Rattle.events.specs.declared.event.Event.{Event}
 use Rattle.events.specs.declared.kind.Kind.{Kind}
 use Rattle.events.specs.declared.kind.Kind.TheVariants as kind
-use Rattle.events.specs.Kind.{event_of}
+use Rattle.events.specs.Kind.{event_of, Tried, tried}
 use Rattle.events.specs.Answer.{text_of}
-use Rattle.events.specs.Refusal.{number_of, option_number, result_number, fault_in}
+use Rattle.events.specs.Refusal.{number_of, option_number, result_number}
 use Rattle.events.proofs.answer.Answer.text.Kinds as text_kinds
 use Rattle.events.proofs.answer.Answer.text.Reads as text_reads
 use Rattle.events.proofs.refusal.Refusal.number.Kinds as number_kinds
@@ -111,11 +110,17 @@ kind_again kind.ReadNak = refl
 kind_again (kind.Pulses n) = refl
 kind_again kind.PowerLoss = refl
 
-kind_only : (e : Event) (r : Result Kind Refusal) → (result_number r ≡ fault_in e) × IfOk r (λ k. event_of k ≡ e) →
-    result_back (kind_back e) (fault_in e) ≡ r
-kind_only e r p =
-    ap (result_back (kind_back e)) (sym p.0)
-    ∙ result_again (kind_back e) r (λ k o. ap kind_back (sym (IfOk-at_ok (λ k. event_of k ≡ e) o p.1)) ∙ kind_again k)
+-- a kind, or its refusal, from what is told of it
+abbrev tried_kind : ℕ → Option Event → Result Kind Refusal
+tried_kind n None = Err (refusal_back n)
+tried_kind n (Some e) = Ok (kind_back e)
+
+abbrev pub tried_back : Tried → Result Kind Refusal
+tried_back t = tried_kind t.refusal t.event
+
+pub tried_again : (r : Result Kind Refusal) → tried_back (tried r) ≡ r
+tried_again (Ok k) = ap Ok (kind_again k)
+tried_again (Err r) = ap Err (refusal_again r)
 
 pub text_settles : Settles 0 text_kinds.ps text_kinds.r text_reads.Post
 text_settles κs a e f x y = settled (λ z. z) (λ z. z) (λ z. refl)
@@ -133,4 +138,4 @@ pub event_settles : Settles 0 event_kinds.ps event_kinds.r event_reads.Post
 event_settles κs a e f x y = settled (λ z. z) (λ z. z) (λ z. refl)
 
 pub kind_settles : Settles 0 kind_kinds.ps kind_kinds.r kind_reads.Post
-kind_settles κs a e f x y p q = sym (kind_only a.0 x p) ∙ kind_only a.0 y q
+kind_settles κs a e f x y = settled tried tried_back tried_again

@@ -1,7 +1,7 @@
 // An event by its kind, and the refusals that its own fields earn. (rules 8.1 and 8.3)
-ghost use Rattle.std.specs.Prelude.{◌≡◌, IfOk};
+ghost use Rattle.std.specs.Prelude.{◌≡◌};
 ghost use Rattle.events.specs.Refusal.{result_number, fault_in};
-ghost use Rattle.events.specs.Kind.{event_of};
+ghost use Rattle.events.specs.Kind.{event_of, tried, tried_of};
 
 use crate::event::Event;
 use crate::refusal::Refusal;
@@ -21,7 +21,7 @@ pub enum Kind {
 impl TryFrom<Event> for Kind {
     type Error = Refusal;
 
-    ghost try_from_gives = { λ event r. (result_number r ≡ fault_in event) × IfOk r (λ kind. event_of kind ≡ event) };
+    ghost try_from_gives = { λ event r. tried r ≡ tried_of event };
 
     // The kind before the fields: an unused one is 0, and pulses are not. (rule 8.3)
     fn try_from(event: Event) -> Result<Kind, Refusal> {

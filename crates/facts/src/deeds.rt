@@ -110,7 +110,7 @@ fn event_deed(c: Clock, kind: Kind) -> Deed
 }
 
 // Any event on any state. (rules 8.3 and 11.1)
-#[tactic(auto, unfolding(crate::specs::Deeds::deed_of, sd2068::specs::Step::refusal_of))]
+#[tactic(auto, using(events::proofs::TriedLaws::tried_number, events::proofs::TriedLaws::tried_kind), unfolding(crate::specs::Deeds::deed_of, sd2068::specs::Step::refusal_of))]
 pub fn deed_of(c: Clock, event: Event) -> Deed
     ensures { result ≡ deed_of c event.kind event.byte event.count }
 {

@@ -20,7 +20,7 @@ fn quiet(clock: Clock) -> Answered
 
 impl Clock {
     // What an event is, unless the state or the event itself is refused. (rule 8.3)
-    #[tactic(auto, unfolding(crate::specs::Step::refusal_of))]
+    #[tactic(auto, using(events::proofs::TriedLaws::tried_number, events::proofs::TriedLaws::tried_kind), unfolding(crate::specs::Step::refusal_of))]
     fn admitted(self, event: Event) -> Result<Kind, Refusal>
         ensures refusal { result_number result ≡ refusal_of self event.kind event.byte event.count }
         ensures kind { IfOk result (λ k. kinds.event_of k ≡ event) }
