@@ -1,5 +1,5 @@
 // The lines that are printed. (rules 8.1 and 8.3)
-use events::Refusal;
+use events::{Answer, Refusal};
 use script::{LONGEST_REFUSED, Ran, Refused, put_refused};
 use sd2068::{Clock, Stepped};
 use state_bytes::bytes_of;
@@ -27,10 +27,10 @@ pub(crate) fn print_step(rt: &impl Print, r: Stepped) -> io::Result<()> {
     println!(rt; " {}", r.pin.letter() as char)
 }
 
-// Bytes as reads answer them; explain prints only a state's so, by a type that has no other use here.
+// Bytes as reads answer them, each by its answer's text: by a format a run took a third longer.
 fn print_bytes(rt: &impl Print, bytes: &[u8]) -> io::Result<()> {
     for b in bytes {
-        print!(rt; "{b:02X}")?;
+        rt.write_all(&Answer::Byte(*b).text())?;
     }
     Ok(())
 }
