@@ -7,13 +7,14 @@ use native.Mathlib.Nat.{add-zero, zero-add, add-suc, suc-add, le_of_suc-le-suc, 
 use native.Mathlib.Omega.{arith}
 use lib.Dec.{leb, ltb}
 use lib.ListN.{get_or}
-use borrow.Author.Tests.{ltb-true, leb-true, leb-false}
+use borrow.Author.Tests.{lt-ltb, ltb-true, leb-true, leb-false}
 use Rattle.fields.specs.Digits.{byte_of}
+use Rattle.fields.proofs.Picked.{picked}
 use Rattle.dates.specs.Months.{month_byte_of, year_byte_of, days_of, first_day_of, first_days_from, first_days}
 use Rattle.dates.specs.Dates.{legal_date_of, month_number_of, day_of, day_number_of, month_of, date_in, date_at_of}
-use Rattle.dates.specs.Lent.{day_from, day_by, day_number_in_of, guess_of, month_in_of, date_from, date_by, date_in_of}
+use Rattle.dates.specs.Lent.{day_from, day_by, day_number_in_of, guess_of, month_by, month_in_of, date_from, date_by, date_in_of}
 use Rattle.dates.specs.declared.date.Date.{Date}
-use Rattle.dates.proofs.MonthLaws.{Falls, found, guess_month, guess_before, days_small}
+use Rattle.dates.proofs.MonthLaws.{first_small, Falls, found, guess_month, guess_before, days_small}
 use Rattle.dates.proofs.DateLaws.{LegalDate, legal_date, month_small}
 
 listed_from_lem : (n k i : ℕ) → i < n → get_or (first_days_from n k) i 0 ≡ first_day_of (k + i)
@@ -39,6 +40,10 @@ module _ (k n a : ℕ) (h : Falls k n) (e : a ≡ first_day_of k) where
       ∙ ap (λ (d : ℕ). record { day = byte_of d; month = month_byte_of k; year = year_byte_of k }) (uncut (first_day_of k) n (days_of k) h.until (days_small k))
       ∙ ap (λ (j : ℕ). date_in j n) (sym (found k n h))
 
+  pub dated_at : Some (date_from n k a) ≡ date_at_of n
+  unfolding date_at_of
+  dated_at = rw (lt-ltb n 36525 (omega (arith, h.until, first_small k h.month))) (ap Some from_first)
+
 -- a guessed month that has begun is the one, and else the month before it is
 month_lent : (n a : ℕ) (b : Bool) → n < 36525 → a ≡ first_day_of (guess_of n) → leb a n ≡ b → Falls (cond b (guess_of n) (guess_of n - 1)) n
 month_lent n a true h e t = guess_month n (guess_of n) h refl (rw e at (leb-true a n t))
@@ -46,6 +51,10 @@ month_lent n a false h e t = guess_before n (guess_of n) h refl (rw e at (leb-fa
 
 guess_small : (n : ℕ) → guess_of n < 1200
 guess_small n = omega arith
+
+-- whatever the first day, the month is one of the century
+pub by_small : (n e a : ℕ) → e < 1200 → month_by n e a < 1200
+by_small n e a h = picked (λ (k : ℕ). k < 1200) _ {y = e - 1} h (omega arith)
 
 -- answers that are there in the same case are the same if their values are, where they are there
 same_answer : {A : Type 0} (b : Bool) {x y : A} → (b ≡ true → x ≡ y) → cond b (Some x) None ≡ cond b (Some y) None

@@ -1,5 +1,5 @@
 -- A test that tells which of two statements holds, so that a choice by it is proved from the statements alone. Assumes nothing.
-use Rattle.std.proofs.Common.{◌≡◌, refl, Bool, true, false, cond, ◌&&◌, ◌||◌, ◌⊎◌, inl, inr, ℕ, ◌≤◌, ◌<◌, eqb, ltb, leb, ltb-true, ltb-false, leb-true, leb-false, eqb-true}
+use Rattle.std.proofs.Common.{◌≡◌, refl, Bool, true, false, cond, ◌&&◌, ◌||◌, not, ◌⊎◌, inl, inr, ℕ, ◌≤◌, ◌<◌, eqb, ltb, leb, ltb-true, ltb-false, leb-true, leb-false, eqb-true}
 use Rattle.std.proofs.lemmas.Bool.{eqb-false}
 
 pub data Tells (P Q : Type 0) : Bool → Type 0 where
@@ -51,3 +51,7 @@ module _ {P Q : Type 0} where
   or_else (holds p) t = holds (inl p)
   or_else (fails r) (holds q) = holds (inr q)
   or_else (fails r) (fails s) = fails (r, s)
+
+  pub opposite : {b : Bool} → Tells P Q b → Tells Q P (not b)
+  opposite (holds p) = fails p
+  opposite (fails q) = holds q
