@@ -1,7 +1,8 @@
 """tests/wrong_programs.py tells each edit that shows nothing: the edits in tests/bad_edits, all but one of them bad.
 
-They are edits of the crate `events`, the quickest to check. Some are tried beside each other in one copy, where the
-good one must still pass; of the others one does not compile, so that each is tried alone.
+They are edits of `events`, the quickest crate to check, and one of `input`, which has an answer that misses its place.
+Some are tried beside each other in one copy, where the good one must still pass; of the others one does not compile, so
+that each is tried alone.
 """
 
 import re
@@ -9,19 +10,20 @@ import subprocess
 import sys
 
 BESIDE = {
-    "harmless": "NOT REFUSED",
-    "elsewhere": "it was refused in events::kind::fault, returns-then-good, not in",
-    "untold": "it gives no input that tells",
-    "right": None,
+    "events/harmless": "NOT REFUSED",
+    "events/elsewhere": "it was refused in events::kind::fault, returns-then-good, not in",
+    "events/untold": "it gives no input that tells",
+    "events/right": None,
 }
 ALONE = {
-    "uncompiled": "it does not reach the prover",
-    "misshapen": "a proof only misses its place",
-    "unnamed": "it does not say where it is to be refused",
-    "absent": "an 'old:' text is not in src/answer.rt just once",
-    "twice": "an 'old:' text is not in src/refusal.rt just once",
-    "outside": "a 'file:' line names no file of the crate",
-    "empty": "it has no 'old:' and 'new:' pair",
+    "events/uncompiled": "it does not reach the prover",
+    "events/misnamed": "a proof only misses its place",
+    "input/misshapen": "a proof only misses its place",
+    "events/unnamed": "it does not say where it is to be refused",
+    "events/absent": "an 'old:' text is not in src/answer.rt just once",
+    "events/twice": "an 'old:' text is not in src/refusal.rt just once",
+    "events/outside": "a 'file:' line names no file of the crate",
+    "events/empty": "it has no 'old:' and 'new:' pair",
 }
 
 
@@ -33,9 +35,9 @@ def tried(*words):
 
 def faults(owed):
     """What is not told as it should be of some edits that are tried in one call."""
-    status, said = tried(*("events/%s" % label for label in owed))
+    status, said = tried(*owed)
     # Behind the lines of the single checks stands one for each bad edit, and then the count.
-    told = dict(re.findall(r"^events/(\w+): (.*[^)\n])$", said, re.MULTILINE))
+    told = dict(re.findall(r"^(\w+/\w+): (.*[^)\n])$", said, re.MULTILINE))
     for label, why in owed.items():
         if (label in told) != (why is not None) or not told.get(label, "").startswith(why or ""):
             yield "%s: %s" % (label, told.get(label, "nothing is said of it"))
